@@ -1,0 +1,14 @@
+pub mod Bytes
+pub mod Text
+pub mod Lines
+pub mod Answer
+pub mod Search
+pub mod Entries
+pub mod Sph
+pub mod States
+pub mod Rules
+pub mod Records
+pub mod Order
+pub mod Fields
+pub mod Listing
+pub mod Answers
