@@ -1,3 +1,4 @@
 pub mod Build
 pub mod Cases
 pub mod Starts
+pub mod Laws

@@ -1,0 +1,271 @@
+-- The laws of tests, answers and searches: what it means that nothing is found, what it means that something is, and the steps of a loop.
+-- Assumes nothing.
+use Prim.Native.Nat.{ℕ, zero, suc, _+_, _*_, _-_, _≤_, _<_}
+use mathlib.Core.Bool.{Bool, true, false, cond, _&&_, _||_, not}
+use mathlib.Core.Logic.{_↔_, _⊎_, inl, inr, ⊎-elim}
+use mathlib.Core.List.{List, [], _∷_, _++_, map}
+use mathlib.Core.Path.{_≡_, refl, sym, ap, _∙_, subst}
+use native.Mathlib.Omega.{arith}
+use native.Mathlib.Nat.{add-zero, zero-add, add-suc, suc-add, le-of-suc-le-suc, not-suc-le-zero}
+use native.Mathlib.Numerals.{add-one}
+use lib.Dec.{T, leb, ltb, eqb, leb→le, le→leb, eqb→eq, eqb-refl, T-not, not-T}
+use lib.IntN.{ℤ, pos, negsuc}
+use lib.Signed.{leZ, ltZ, _≤ℤ_, _<ℤ_}
+use lib.ListN.{length, take, drop, getD}
+use lib.Seq.{drop-cons}
+use borrow.Author.Tests.{leb-true, leb-false}
+use Rattle.layout.specs.Text.{Class, fits}
+use Rattle.layout.specs.Answer.{Answer, accepted, refused, _orElse_, need, where′, _⇒_}
+use Rattle.layout.specs.Search.{first, some, count, find, upto, laidOut}
+use Rattle.layout.specs.Entries.{eqZ}
+
+pub lt-or-le : (a b : ℕ) → (a < b) ⊎ (b ≤ a)
+lt-or-le a b = go (leb (suc a) b) refl
+  where
+    go : (t : Bool) → leb (suc a) b ≡ t → (a < b) ⊎ (b ≤ a)
+    go true e = inl (leb-true (suc a) b e)
+    go false e = inr (let h : b < suc a = leb-false (suc a) b e in omega arith)
+
+-- ---- tests as statements
+
+pub and-T : (a b : Bool) → T (a && b) ↔ (T a × T b)
+and-T true b = (λ h. (tt, h), λ h. h .1)
+and-T false b = (λ h. absurd h, λ h. h .0)
+
+pub imp-T : (a b : Bool) → T (not a || b) ↔ (T a → T b)
+imp-T true b = (λ h t. h, λ h. h tt)
+imp-T false b = (λ h t. absurd t, λ h. tt)
+
+pub not-T′ : (a : Bool) → T (not a) ↔ (T a → ⊥)
+not-T′ a = (T-not a, not-T a)
+
+pub leb-T : (m n : ℕ) → T (leb m n) ↔ (m ≤ n)
+leb-T m n = (leb→le m n, le→leb m n)
+
+pub eqb-T : (m n : ℕ) → T (eqb m n) ↔ (m ≡ n)
+eqb-T m n = (eqb→eq m n, λ e. subst (λ (k : ℕ). T (eqb m k)) e (eqb-refl m))
+
+pub leZ-T : (x y : ℤ) → T (leZ x y) ↔ (x ≤ℤ y)
+leZ-T x y = (λ h. record { le = h }, λ h. h .le)
+
+pub eqZ-T : (x y : ℤ) → T (eqZ x y) ↔ (x ≡ y)
+eqZ-T x y = (to x y, λ e. subst (λ (z : ℤ). T (eqZ x z)) e (same x))
+  where
+    same : (z : ℤ) → T (eqZ z z)
+    same (pos n) = eqb-refl n
+    same (negsuc n) = eqb-refl n
+
+    to : (x y : ℤ) → T (eqZ x y) → x ≡ y
+    to (pos m) (pos n) h = ap pos (eqb→eq m n h)
+    to (pos m) (negsuc n) h = absurd h
+    to (negsuc m) (pos n) h = absurd h
+    to (negsuc m) (negsuc n) h = ap negsuc (eqb→eq m n h)
+
+-- ---- answers
+
+pub accepted≢refused : {n p e : ℕ} → accepted ≡ refused n p e → ⊥
+accepted≢refused h = let z : _≡_ {A = ℕ} 0 1 = cc in omega arith
+
+pub need-accepts : (t : Bool) (n p e : ℕ) → (need t n p e ≡ accepted) ↔ T t
+need-accepts true n p e = (λ h. tt, λ t. refl)
+need-accepts false n p e = (λ h. accepted≢refused (sym h), λ t. absurd t)
+
+pub orElse-accepts : (a b : Answer) → (a orElse b ≡ accepted) ↔ ((a ≡ accepted) × (b ≡ accepted))
+orElse-accepts accepted b = (λ h. (refl, h), λ h. h .1)
+orElse-accepts (refused n p e) b = (λ h. absurd (accepted≢refused (sym h)), λ h. h .0)
+
+pub where-accepts : (t : Bool) (a : Answer) → (where′ t a ≡ accepted) ↔ (T t → a ≡ accepted)
+where-accepts true a = (λ h t. h, λ h. h tt)
+where-accepts false a = (λ h t. absurd t, λ h. refl)
+
+-- ---- the search for a refusal
+
+module _ (f : ℕ → Answer) where
+  -- nothing is found: exactly when each number finds nothing
+  pub first-accepts : (i n : ℕ) → (first f i n ≡ accepted) ↔ ((k : ℕ) → i ≤ k → k < i + n → f k ≡ accepted)
+  unfolding first
+  first-accepts i zero = (λ h k l u. absurd (omega arith), λ h. refl)
+  first-accepts i (suc n) = (to (first-accepts (suc i) n .0), from (first-accepts (suc i) n .1))
+    where
+      to : (first f (suc i) n ≡ accepted → (k : ℕ) → suc i ≤ k → k < suc i + n → f k ≡ accepted) → (f i orElse first f (suc i) n) ≡ accepted → (k : ℕ) → i ≤ k → k < i + suc n → f k ≡ accepted
+      to below h k l u = go (lt-or-le i k)
+        where
+          s : (f i ≡ accepted) × (first f (suc i) n ≡ accepted)
+          s = orElse-accepts (f i) (first f (suc i) n) .0 h
+
+          go : (i < k) ⊎ (k ≤ i) → f k ≡ accepted
+          go (inl m) = below (s .1) k m (omega arith)
+          go (inr m) = let e : k ≡ i = omega arith in rw e (s .0)
+
+      from : (((k : ℕ) → suc i ≤ k → k < suc i + n → f k ≡ accepted) → first f (suc i) n ≡ accepted) → ((k : ℕ) → i ≤ k → k < i + suc n → f k ≡ accepted) → (f i orElse first f (suc i) n) ≡ accepted
+      from below h = orElse-accepts (f i) (first f (suc i) n) .1 (h i (omega arith) (omega arith), below (λ k l u. h k (omega arith) (omega arith)))
+
+  -- the same from 0 on
+  pub first-accepts-0 : (n : ℕ) → (first f 0 n ≡ accepted) ↔ ((k : ℕ) → k < n → f k ≡ accepted)
+  first-accepts-0 n = (λ h k l. first-accepts 0 n .0 h k (omega arith) (omega arith), λ h. first-accepts 0 n .1 (λ k l u. h k (omega arith)))
+
+  -- something is found: at some number, and nothing before it
+  pub first-refuses : (i n m p e : ℕ) → first f i n ≡ refused m p e → (k : ℕ) × (i ≤ k) × (k < i + n) × (f k ≡ refused m p e) × ((j : ℕ) → i ≤ j → j < k → f j ≡ accepted)
+  unfolding first
+  first-refuses i zero m p e h = absurd (accepted≢refused h)
+  first-refuses i (suc n) m p e h = go (f i) refl h (first-refuses (suc i) n m p e)
+    where
+      go : (a : Answer) → f i ≡ a → (a orElse first f (suc i) n) ≡ refused m p e
+          → (first f (suc i) n ≡ refused m p e → (k : ℕ) × (suc i ≤ k) × (k < suc i + n) × (f k ≡ refused m p e) × ((j : ℕ) → suc i ≤ j → j < k → f j ≡ accepted))
+          → (k : ℕ) × (i ≤ k) × (k < i + suc n) × (f k ≡ refused m p e) × ((j : ℕ) → i ≤ j → j < k → f j ≡ accepted)
+      go accepted g h below =
+          let r = below h in
+          (r .0, omega (arith, r .1), omega (arith, r .2), r .3, λ j l u. ⊎-elim (λ v. r .4 j v u) (λ v. let q : j ≡ i = omega arith in rw q g) (lt-or-le i j))
+      go (refused n' p' e') g h below = (i, omega arith, omega arith, g ∙ h, λ j l u. absurd (omega arith))
+
+  -- for loops: one step, and the end; and a run of numbers known to be good
+  pub first-step : (i n : ℕ) → i < n → first f i (n - i) ≡ (f i orElse first f (i + 1) (n - (i + 1)))
+  unfolding first
+  first-step i n h = let q : n - i ≡ suc (n - suc i) = omega arith in rw (q, add-one i)
+
+  pub first-end : (n : ℕ) → first f n (n - n) ≡ accepted
+  unfolding first
+  first-end n = let q : n - n ≡ 0 = omega arith in rw q
+
+  first-skip′ : (m i n : ℕ) → ((k : ℕ) → i ≤ k → k < i + m → f k ≡ accepted) → first f i (m + n) ≡ first f (i + m) n
+  unfolding first
+  first-skip′ zero i n h = rw (zero-add n, add-zero i)
+  first-skip′ (suc m) i n h = rw (suc-add m n, h i (omega arith) (omega arith), add-suc i m, ← suc-add i m) (first-skip′ m (suc i) n (λ k l u. h k (omega arith) (omega arith)))
+
+  pub first-skip : (i j n : ℕ) → i ≤ j → j ≤ n → ((k : ℕ) → i ≤ k → k < j → f k ≡ accepted) → first f i (n - i) ≡ first f j (n - j)
+  first-skip i j n l u h =
+      let q : n - i ≡ (j - i) + (n - j) = omega arith in
+      let r : i + (j - i) ≡ j = omega arith in
+      rw q (first-skip′ (j - i) i (n - j) (λ k v w. h k v (omega arith)) ∙ rw r)
+
+-- ---- the search for a number that passes
+
+module _ (t : ℕ → Bool) where
+  some-at : (i n : ℕ) → T (some t i n) → (k : ℕ) × (i ≤ k) × (k < i + n) × T (t k)
+  unfolding some
+  some-at i zero h = absurd h
+  some-at i (suc n) h = go (t i) refl h (some-at (suc i) n)
+    where
+      go : (u : Bool) → t i ≡ u → T (u || some t (suc i) n) → (T (some t (suc i) n) → (k : ℕ) × (suc i ≤ k) × (k < suc i + n) × T (t k)) → (k : ℕ) × (i ≤ k) × (k < i + suc n) × T (t k)
+      go true e h below = (i, omega arith, omega arith, rw e tt)
+      go false e h below = let r = below h in (r .0, omega (arith, r .1), omega (arith, r .2), r .3)
+
+  at-some : (i n k : ℕ) → i ≤ k → k < i + n → T (t k) → T (some t i n)
+  unfolding some
+  at-some i zero k l u h = absurd (omega arith)
+  at-some i (suc n) k l u h = go (lt-or-le i k) (t i) refl (λ v. at-some (suc i) n k v (omega arith) h)
+    where
+      go : (i < k) ⊎ (k ≤ i) → (v : Bool) → t i ≡ v → (suc i ≤ k → T (some t (suc i) n)) → T (v || some t (suc i) n)
+      go m true e below = tt
+      go (inl m) false e below = below m
+      go (inr m) false e below = absurd (subst (λ (v : Bool). T v) e (subst (λ (j : ℕ). T (t j)) (omega arith) h))
+
+  pub some-step : (i n : ℕ) → i < n → some t i (n - i) ≡ (t i || some t (i + 1) (n - (i + 1)))
+  unfolding some
+  some-step i n h = let q : n - i ≡ suc (n - suc i) = omega arith in rw (q, add-one i)
+
+  pub some-end : (n : ℕ) → some t n (n - n) ≡ false
+  unfolding some
+  some-end n = let q : n - n ≡ 0 = omega arith in rw q
+
+  pub some-T : (n : ℕ) → T (some t 0 n) ↔ ((k : ℕ) × (k < n) × T (t k))
+  some-T n = (λ h. let r = some-at 0 n h in (r .0, omega (arith, r .2), r .3), λ h. at-some 0 n (h .0) (omega arith) (omega (arith, h .1)) (h .2))
+
+-- ---- searches that agree at each number
+
+pub first-same : (f g : ℕ → Answer) (i n : ℕ) → ((k : ℕ) → i ≤ k → k < i + n → f k ≡ g k) → first f i n ≡ first g i n
+unfolding first
+first-same f g i zero h = refl
+first-same f g i (suc n) h = rw (h i (omega arith) (omega arith), first-same f g (suc i) n (λ k l u. h k (omega arith) (omega arith)))
+
+pub some-same : (t u : ℕ → Bool) (i n : ℕ) → ((k : ℕ) → i ≤ k → k < i + n → t k ≡ u k) → some t i n ≡ some u i n
+unfolding some
+some-same t u i zero h = refl
+some-same t u i (suc n) h = rw (h i (omega arith) (omega arith), some-same t u (suc i) n (λ k l v. h k (omega arith) (omega arith)))
+
+pub count-same : (t u : ℕ → Bool) (i n : ℕ) → ((k : ℕ) → i ≤ k → k < i + n → t k ≡ u k) → count t i n ≡ count u i n
+unfolding count
+count-same t u i zero h = refl
+count-same t u i (suc n) h = rw (h i (omega arith) (omega arith), count-same t u (suc i) n (λ k l v. h k (omega arith) (omega arith)))
+
+pub find-same : (t u : ℕ → Bool) (i n : ℕ) → ((k : ℕ) → i ≤ k → k < i + n → t k ≡ u k) → find t i n ≡ find u i n
+unfolding find
+find-same t u i zero h = refl
+find-same t u i (suc n) h = rw (h i (omega arith) (omega arith), find-same t u (suc i) n (λ k l v. h k (omega arith) (omega arith)))
+
+-- ---- counting and finding
+
+module _ (t : ℕ → Bool) where
+  pub count-step : (i n : ℕ) → i < n → count t i (n - i) ≡ cond (t i) 1 0 + count t (i + 1) (n - (i + 1))
+  unfolding count
+  count-step i n h = let q : n - i ≡ suc (n - suc i) = omega arith in rw (q, add-one i)
+
+  pub count-end : (n : ℕ) → count t n (n - n) ≡ 0
+  unfolding count
+  count-end n = let q : n - n ≡ 0 = omega arith in rw q
+
+  pub find-step : (i n : ℕ) → i < n → find t i (n - i) ≡ cond (t i) i (find t (i + 1) (n - (i + 1)))
+  unfolding find
+  find-step i n h = let q : n - i ≡ suc (n - suc i) = omega arith in rw (q, add-one i)
+
+  pub find-end : (n : ℕ) → find t n (n - n) ≡ n
+  unfolding find
+  find-end n = let q : n - n ≡ 0 = omega arith in rw q
+
+  pub find-bounds : (i n : ℕ) → (i ≤ find t i n) × (find t i n ≤ i + n)
+  unfolding find
+  find-bounds i zero = (omega arith, omega arith)
+  find-bounds i (suc n) = go (t i) (find-bounds (suc i) n)
+    where
+      go : (u : Bool) → (suc i ≤ find t (suc i) n) × (find t (suc i) n ≤ suc i + n) → (i ≤ cond u i (find t (suc i) n)) × (cond u i (find t (suc i) n) ≤ i + suc n)
+      go true h = (omega arith, omega arith)
+      go false h = (omega (arith, h .0), omega (arith, h .1))
+
+  -- nothing before the number found passes
+  pub find-before : (i n k : ℕ) → i ≤ k → k < find t i n → t k ≡ false
+  unfolding find
+  find-before i zero k l u = absurd (omega arith)
+  find-before i (suc n) k l u = go (t i) refl u (find-before (suc i) n k)
+    where
+      go : (v : Bool) → t i ≡ v → k < cond v i (find t (suc i) n) → (suc i ≤ k → k < find t (suc i) n → t k ≡ false) → t k ≡ false
+      go true e u below = absurd (omega arith)
+      go false e u below = ⊎-elim (λ m. below m u) (λ m. let q : k ≡ i = omega arith in rw q e) (lt-or-le i k)
+
+  -- the number found passes
+  pub find-at : (i n : ℕ) → find t i n < i + n → T (t (find t i n))
+  unfolding find
+  find-at i zero h = absurd (omega arith)
+  find-at i (suc n) h = go (t i) refl h (find-at (suc i) n)
+    where
+      go : (v : Bool) → t i ≡ v → cond v i (find t (suc i) n) < i + suc n → (find t (suc i) n < suc i + n → T (t (find t (suc i) n))) → T (t (cond v i (find t (suc i) n)))
+      go true e u below = rw e tt
+      go false e u below = below (omega arith)
+
+-- ---- bytes against a layout
+
+orElse-assoc : (x y z : Answer) → (x orElse y) orElse z ≡ x orElse (y orElse z)
+orElse-assoc accepted y z = refl
+orElse-assoc (refused n p e) y z = refl
+
+-- one layout after another
+pub laidOut-append : (n e : ℕ) (ks js : List Class) (b : List ℕ) (p : ℕ) → length ks ≤ length b
+    → laidOut n e p (ks ++ js) b ≡ (laidOut n e p ks b orElse laidOut n e (p + length ks) js (drop (length ks) b))
+unfolding laidOut
+laidOut-append n e [] js b p h = rw (add-zero p)
+laidOut-append n e (k ∷ ks) js [] p h = absurd (not-suc-le-zero h)
+laidOut-append n e (k ∷ ks) js (x ∷ b) p h =
+    rw (laidOut-append n e ks js b (suc p) (le-of-suc-le-suc h), orElse-assoc, add-suc p (length ks), suc-add p (length ks))
+
+-- one byte of a layout, for a loop that goes through it by place
+pub laidOut-step : (d : Class) (n e : ℕ) (ks : List Class) (b : List ℕ) (p i : ℕ) → i < length ks → i < length b
+    → laidOut n e p (drop i ks) (drop i b) ≡ (need (fits (getD ks i d) (getD b i 0)) n p e orElse laidOut n e (suc p) (drop (suc i) ks) (drop (suc i) b))
+unfolding laidOut
+laidOut-step d n e ks b p i h l = rw (drop-cons ks i d h, drop-cons b i 0 l)
+
+-- only as many bytes count as the layout has
+pub laidOut-take : (n e : ℕ) (ks : List Class) (b : List ℕ) (p m : ℕ) → length ks ≤ m → laidOut n e p ks (take m b) ≡ laidOut n e p ks b
+unfolding laidOut
+laidOut-take n e [] b p m h = refl
+laidOut-take n e (k ∷ ks) b p zero h = absurd (not-suc-le-zero h)
+laidOut-take n e (k ∷ ks) [] p (suc m) h = refl
+laidOut-take n e (k ∷ ks) (x ∷ b) p (suc m) h = rw (laidOut-take n e ks b (suc p) m (le-of-suc-le-suc h))
