@@ -45,6 +45,31 @@ leb-T m n = (leb→le m n, le→leb m n)
 pub eqb-T : (m n : ℕ) → T (eqb m n) ↔ (m ≡ n)
 eqb-T m n = (eqb→eq m n, λ e. subst (λ (k : ℕ). T (eqb m k)) e (eqb-refl m))
 
+pub under : (m n : ℕ) → (T (leb m n) → ⊥) ↔ (n < m)
+under m n = (λ h. ⊎-elim (λ l. l) (λ l. absurd (h (le→leb m n l))) (lt-or-le n m), λ l h. omega (arith, leb→le m n h))
+
+pub or-T : (a b : Bool) → T (a || b) ↔ (T a ⊎ T b)
+or-T true b = (λ h. inl tt, λ h. tt)
+or-T false b = (λ h. inr h, λ h. ⊎-elim (λ x. absurd x) (λ x. x) h)
+
+pub not-not-T : (a : Bool) → (T (not a) → ⊥) ↔ T a
+not-not-T true = (λ h. tt, λ h k. k)
+not-not-T false = (λ h. absurd (h tt), λ h. absurd h)
+
+pub either-iff : {A B C D : Type 0} → A ↔ B → C ↔ D → (A ⊎ C) ↔ (B ⊎ D)
+either-iff f g = (⊎-elim (λ a. inl (f .0 a)) (λ c. inr (g .0 c)), ⊎-elim (λ b. inl (f .1 b)) (λ d. inr (g .1 d)))
+
+pub not-iff : {A B : Type 0} → A ↔ B → (A → ⊥) ↔ (B → ⊥)
+not-iff f = (λ h b. h (f .1 b), λ h a. h (f .0 a))
+
+-- a test that passes where another does not
+pub not-imp-T : (a b : Bool) → (T (not a || b) → ⊥) ↔ (T a × (T b → ⊥))
+not-imp-T true b = (λ h. (tt, h), λ h. h .1)
+not-imp-T false b = (λ h. absurd (h tt), λ h t. h .0)
+
+pub ltZ-T : (x y : ℤ) → T (ltZ x y) ↔ (x <ℤ y)
+ltZ-T x y = (λ h. record { lt = h }, λ h. h .lt)
+
 pub leZ-T : (x y : ℤ) → T (leZ x y) ↔ (x ≤ℤ y)
 leZ-T x y = (λ h. record { le = h }, λ h. h .le)
 
@@ -77,6 +102,14 @@ orElse-accepts (refused n p e) b = (λ h. absurd (accepted≢refused (sym h)), �
 pub where-accepts : (t : Bool) (a : Answer) → (where′ t a ≡ accepted) ↔ (T t → a ≡ accepted)
 where-accepts true a = (λ h t. h, λ h. h tt)
 where-accepts false a = (λ h t. absurd t, λ h. refl)
+
+pub orElse-assoc : (x y z : Answer) → (x orElse y) orElse z ≡ x orElse (y orElse z)
+orElse-assoc accepted y z = refl
+orElse-assoc (refused n p e) y z = refl
+
+pub orElse-accepted : (x : Answer) → x orElse accepted ≡ x
+orElse-accepted accepted = refl
+orElse-accepted (refused n p e) = refl
 
 -- ---- the search for a refusal
 
@@ -242,10 +275,6 @@ module _ (t : ℕ → Bool) where
       go false e u below = below (omega arith)
 
 -- ---- bytes against a layout
-
-orElse-assoc : (x y z : Answer) → (x orElse y) orElse z ≡ x orElse (y orElse z)
-orElse-assoc accepted y z = refl
-orElse-assoc (refused n p e) y z = refl
 
 -- one layout after another
 pub laidOut-append : (n e : ℕ) (ks js : List Class) (b : List ℕ) (p : ℕ) → length ks ≤ length b
