@@ -396,7 +396,7 @@ module _ (b : List ℕ) (ds : List Entry) where
       (where-judges (nonEmpty states) Iff·rfl
       (λ m. need-then-judges (eqZ (whole (states .recordSize)) (pos 1387)) 15 (start states) (statesEntry ds) (eqZ-T (whole (states .recordSize)) (pos 1387)) bad-judges)))
 
-  filled-T : (f : Entry) → T (isVariable f) → T (isFilled (tallyOf (statesOf b ds)) f) ↔ Filled f
+  pub filled-T : (f : Entry) → T (isVariable f) → T (isFilled (tallyOf (statesOf b ds)) f) ↔ Filled f
   unfolding isFilled tallyOf
   filled-T f v = let k = variable-T f .0 v .1 .1 .1 in
       rw (of-kind (countOf (statesOf b ds)) (kindOf f) k (kind-most f), of-kind (totalOf (statesOf b ds)) (kindOf f) k (kind-most f), count-is (statesOf b ds) (kindOf f), total-is (statesOf b ds) (kindOf f)) (simp tests Iff·rfl)

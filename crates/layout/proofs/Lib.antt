@@ -5,3 +5,6 @@ pub mod Laws
 pub mod Judges
 pub mod Faults
 pub mod Exactly
+pub mod Chain
+pub mod Sound
+pub mod Whole
