@@ -8,3 +8,5 @@ pub mod Exactly
 pub mod Chain
 pub mod Sound
 pub mod Whole
+pub mod Agree
+pub mod Maps
