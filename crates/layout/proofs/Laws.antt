@@ -298,3 +298,21 @@ laidOut-take n e [] b p m h = refl
 laidOut-take n e (k ∷ ks) b p zero h = absurd (not-suc-le-zero h)
 laidOut-take n e (k ∷ ks) [] p (suc m) h = refl
 laidOut-take n e (k ∷ ks) (x ∷ b) p (suc m) h = rw (laidOut-take n e ks b (suc p) m (le-of-suc-le-suc h))
+
+-- bytes that are as laid out are each of their class
+pub laidOut-fits : (d : Class) (n e : ℕ) (ks : List Class) (b : List ℕ) (p : ℕ) → laidOut n e p ks b ≡ accepted
+    → (length ks ≤ length b) × ((k : ℕ) → k < length ks → T (fits (getD ks k d) (getD b k 0)))
+unfolding laidOut
+laidOut-fits d n e [] b p h = (omega arith, λ k l. absurd (not-suc-le-zero l))
+laidOut-fits d n e (c ∷ ks) [] p h = absurd (accepted≢refused (sym h))
+laidOut-fits d n e (c ∷ ks) (x ∷ b) p h =
+    let both = orElse-accepts (need (fits c x) n p e) (laidOut n e (suc p) ks b) .0 h in
+    go (need-accepts (fits c x) n p e .0 (both .0)) (laidOut-fits d n e ks b (suc p) (both .1))
+  where
+    go : T (fits c x) → (length ks ≤ length b) × ((k : ℕ) → k < length ks → T (fits (getD ks k d) (getD b k 0)))
+        → (length (c ∷ ks) ≤ length (x ∷ b)) × ((k : ℕ) → k < length (c ∷ ks) → T (fits (getD (c ∷ ks) k d) (getD (x ∷ b) k 0)))
+    go here below = (omega (arith, below .0), at)
+      where
+        at : (k : ℕ) → k < length (c ∷ ks) → T (fits (getD (c ∷ ks) k d) (getD (x ∷ b) k 0))
+        at zero l = here
+        at (suc k) l = below .1 k (le-of-suc-le-suc l)

@@ -2,6 +2,7 @@ pub mod Build
 pub mod Cases
 pub mod Starts
 pub mod Laws
+pub mod Types
 pub mod Judges
 pub mod Faults
 pub mod Exactly

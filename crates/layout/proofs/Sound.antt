@@ -8,14 +8,20 @@ use mathlib.Core.List.{List, [], _∷_, _++_, map}
 use mathlib.Core.Path.{_≡_, refl, sym, ap, _∙_, subst}
 use native.Mathlib.Omega.{arith}
 use native.Mathlib.Nat.{zero-add, add-suc, suc-add, le-of-suc-le-suc, not-suc-le-zero}
-use lib.Dec.{T}
+use lib.Dec.{T, ltb, eqb, eqb→eq, lt→ltb}
+use lib.IntN.{ℤ, pos, negsuc, negℤ, pos-ne-negsuc}
+use lib.Signed.{ltZ, leZ, _≤ℤ_}
 use lib.ListN.{length, getD, replicate, length-map}
+use Rattle.layout.specs.Bytes.{bytes, member}
+use Rattle.layout.specs.Text.{Number, whole}
 use Rattle.layout.specs.Answer.{Answer, accepted, refused, _orElse_, need}
 use Rattle.layout.specs.Search.{first, some, upto, firstRule}
-use Rattle.layout.specs.Entries.{Entry, sphSize, headersEnd, entries, entryOf, entryAt, directory, at, nonEmpty, start, extent, isVariable}
-use Rattle.layout.specs.States.{statesOf, tallyOf}
-use Rattle.layout.specs.Rules.{rule6, sphFits, dsdsFit, rule10, rule10At, rule12, rule12At, setInside, rule13, rule13At, sharesAt, rule14, rule14At, holdsAt, rule15, rule16, rule16At, isFilled, headerRules, stateRules, verdict}
+use Rattle.layout.specs.Entries.{Entry, sphSize, headersEnd, entries, dsdAt, dsdBytes, entryOf, entryAt, directory, at, isData, nonEmpty, start, extent, isVariable}
+use Rattle.layout.specs.States.{State, statesOf, tallyOf}
+use Rattle.layout.specs.Records.{lengths}
+use Rattle.layout.specs.Rules.{rule6, sphFits, dsdsFit, rule8, rule8At, rule10, rule10At, rule12, rule12At, setInside, rule13, rule13At, sharesAt, rule14, rule14At, holdsAt, rule15, rule16, rule16At, isFilled, headerRules, stateRules, verdict}
 use Rattle.layout.proofs.Laws.{and-T, imp-T, not-T′, leb-T, eqb-T, leZ-T, ltZ-T, eqZ-T, need-accepts, orElse-accepts, where-accepts, first-accepts, first-accepts-0, some-T}
+use Rattle.layout.proofs.Types.{Typed, laidOut-typed}
 use Rattle.layout.proofs.Faults.{Byte, NumbersFit, Variable, Filled, holds-T, shares-T, numbers-T, variable-T, filled-T}
 
 ruleset tests = (need-accepts, orElse-accepts, where-accepts, first-accepts-0, some-T, and-T, imp-T, not-T′, leb-T, eqb-T, eqZ-T, leZ-T, ltZ-T)
@@ -47,11 +53,71 @@ at-directory b i h = getD-map-upto (entryAt b) (entryOf (replicate 280 32)) 0 (e
 pub record Sound (b : List ℕ) : Type 0 where
   pub headers : headersEnd b ≤ length b
   pub dsds : 280 * entries b ≤ sphSize b .magnitude
+  pub typed : (i : ℕ) → i < length (directory b) → Typed (at (directory b) i)
   pub numbers : (i : ℕ) → i < length (directory b) → NumbersFit (at (directory b) i)
   pub inside : (i : ℕ) → i < length (directory b) → T (nonEmpty (at (directory b) i)) → (headersEnd b ≤ start (at (directory b) i)) × (start (at (directory b) i) + extent (at (directory b) i) ≤ length b)
   pub apart : (i : ℕ) → i < length (directory b) → ((j : ℕ) × (j < i) × ((p : ℕ) × (Byte (at (directory b) i) p × Byte (at (directory b) j) p))) → ⊥
   pub covered : (p : ℕ) → headersEnd b ≤ p → p < length b → (i : ℕ) × (i < length (directory b)) × Byte (at (directory b) i) p
   pub filled : (i : ℕ) → i < length (directory b) → Variable (at (directory b) i) → Filled b (directory b) (at (directory b) i)
+
+-- ---- entries without records
+
+no-magnitude : (n : Number) → whole n ≡ pos 0 → n .magnitude ≡ 0
+unfolding whole
+no-magnitude n h = go (n .minus) (n .magnitude) h
+  where
+    go : (m : Bool) (k : ℕ) → cond m (negℤ (pos k)) (pos k) ≡ pos 0 → k ≡ 0
+    go true zero h = refl
+    go true (suc k) h = absurd (pos-ne-negsuc 0 k (sym h))
+    go false k h = cc
+
+-- neither negative nor above zero
+not-above : (z : ℤ) → pos 0 ≤ℤ z → ltZ (pos 0) z ≡ false → z ≡ pos 0
+not-above (pos zero) l h = refl
+not-above (pos (suc n)) l h = absurd (subst (λ (t : Bool). T t) h (lt→ltb 0 (suc n) (omega arith)))
+not-above (negsuc n) l h = absurd (l .le)
+
+last-of-four : (t u v w : Bool) → T (t || (u || (v || (w || false)))) → (t || (u || (v || false))) ≡ false → T w
+last-of-four true u v w h e = absurd (subst (λ (t : Bool). T t) e tt)
+last-of-four false true v w h e = absurd (subst (λ (t : Bool). T t) e tt)
+last-of-four false false true w h e = absurd (subst (λ (t : Bool). T t) e tt)
+last-of-four false false false true h e = tt
+last-of-four false false false false h e = absurd h
+
+is-reference : (e : Entry) → T (member (e .type) (bytes "MAGR")) → isData e ≡ false → e .type ≡ 82
+unfolding isData
+is-reference e m x = eqb→eq (e .type) 82 (last-of-four (eqb (e .type) 77) (eqb (e .type) 65) (eqb (e .type) 71) (eqb (e .type) 82) m x)
+
+m-data : (e : Entry) → e .type ≡ 77 → isData e ≡ true
+unfolding isData
+m-data e h = rw h
+
+module _ (e : Entry) (fit : NumbersFit e) (typed : Typed e) (empty : nonEmpty e ≡ false) where
+  no-count : e .count .magnitude ≡ 0
+  unfolding nonEmpty
+  no-count = go typed (isData e) refl
+    where
+      go : Typed e → (d : Bool) → isData e ≡ d → e .count .magnitude ≡ 0
+      go (inr s) d x = s .1
+      go (inl m) true x =
+          let d : T (isData e) = rw x tt in
+          no-magnitude (e .count) (fit .1 d .1 .0 (not-above (whole (e .size)) (fit .1 d .0 .1 .0) (rw x at empty)))
+      go (inl m) false x = no-magnitude (e .count) (fit .0 (is-reference e m x) .1 .1 .0)
+
+  not-variable : isVariable e ≡ false
+  unfolding nonEmpty
+  not-variable = go (isVariable e) refl
+    where
+      go : (v : Bool) → isVariable e ≡ v → v ≡ false
+      go false x = refl
+      go true x =
+          let r = variable-T e .0 (rw x tt) in
+          absurd (subst (λ (t : Bool). T t) (rw (m-data e (r .1 .1 .0)) at empty) (r .0 .lt))
+
+  -- an entry with no byte has no record: R, a spare, an empty set
+  pub no-records : (ss : List State) → lengths ss e ≡ []
+  unfolding lengths
+  no-records ss = rw (not-variable, no-count)
 
 module _ (b : List ℕ) (h : verdict b ≡ accepted) where
   accepted-headers : firstRule headerRules b (length b) ≡ accepted
@@ -67,41 +133,50 @@ module _ (b : List ℕ) (h : verdict b ≡ accepted) where
   abbrev Accepts : Type 0
   Accepts =
       (rule6 b (length b) ≡ accepted)
+      × ((rule8 b (length b) ≡ accepted)
       × ((rule10 b (length b) ≡ accepted)
       × ((rule12 b (length b) ≡ accepted)
       × ((rule13 b (length b) ≡ accepted)
-      × (rule14 b (length b) ≡ accepted))))
+      × (rule14 b (length b) ≡ accepted)))))
 
   rules-accept : Accepts
   unfolding headerRules firstRule
   rules-accept =
       let r = simp orElse-accepts at accepted-headers in
       let r6 = r .1 .1 .1 .1 .1 in
-      let r10 = r6 .1 .1 .1 .1 in
-      (r6 .0, (r10 .0, (r10 .1 .1 .0, (r10 .1 .1 .1 .0, r10 .1 .1 .1 .1 .0))))
+      let r8 = r6 .1 .1 in
+      let r10 = r8 .1 .1 in
+      (r6 .0, (r8 .0, (r10 .0, (r10 .1 .1 .0, (r10 .1 .1 .1 .0, r10 .1 .1 .1 .1 .0)))))
 
   rule6-sound : (headersEnd b ≤ length b) × (280 * entries b ≤ sphSize b .magnitude)
   unfolding rule6 sphFits dsdsFit
   rule6-sound = let r = simp tests at (rules-accept .0) in (r .0 .1, r .1 .0 .1)
 
+  rule8-sound : (i : ℕ) → i < length (directory b) → Typed (at (directory b) i)
+  unfolding rule8 rule8At entryAt
+  rule8-sound i l =
+      let m : i < entries b = omega (arith, length-directory b) in
+      let r = simp first-accepts-0 at (rules-accept .1 .0) in
+      rw (at-directory b i m) (laidOut-typed (dsdBytes b i) 8 i (dsdAt b i) (r i m))
+
   rule10-sound : (i : ℕ) → i < length (directory b) → NumbersFit (at (directory b) i)
   unfolding rule10 rule10At
   rule10-sound i l =
       let m : i < entries b = omega (arith, length-directory b) in
-      let r = simp (first-accepts-0, need-accepts, numbers-T) at (rules-accept .1 .0) in
+      let r = simp (first-accepts-0, need-accepts, numbers-T) at (rules-accept .1 .1 .0) in
       rw (at-directory b i m) (r i m)
 
   rule12-sound : (i : ℕ) → i < length (directory b) → T (nonEmpty (at (directory b) i)) → (headersEnd b ≤ start (at (directory b) i)) × (start (at (directory b) i) + extent (at (directory b) i) ≤ length b)
   unfolding rule12 rule12At setInside
-  rule12-sound = simp tests at (rules-accept .1 .1 .0)
+  rule12-sound = simp tests at (rules-accept .1 .1 .1 .0)
 
   rule13-sound : (i : ℕ) → i < length (directory b) → ((j : ℕ) × (j < i) × ((p : ℕ) × (Byte (at (directory b) i) p × Byte (at (directory b) j) p))) → ⊥
   unfolding rule13 rule13At sharesAt
-  rule13-sound = simp (tests, shares-T) at (rules-accept .1 .1 .1 .0)
+  rule13-sound = simp (tests, shares-T) at (rules-accept .1 .1 .1 .1 .0)
 
   rule14-sound : (p : ℕ) → headersEnd b ≤ p → p < length b → (i : ℕ) × (i < length (directory b)) × Byte (at (directory b) i) p
   unfolding rule14 rule14At holdsAt
-  rule14-sound p l u = let r = simp (first-accepts, tests, holds-T) at (rules-accept .1 .1 .1 .1) in r p l (omega (arith, rule6-sound .0))
+  rule14-sound p l u = let r = simp (first-accepts, tests, holds-T) at (rules-accept .1 .1 .1 .1 .1) in r p l (omega (arith, rule6-sound .0))
 
   rule16-sound : (i : ℕ) → i < length (directory b) → Variable (at (directory b) i) → Filled b (directory b) (at (directory b) i)
   unfolding rule16 rule16At
@@ -114,6 +189,7 @@ module _ (b : List ℕ) (h : verdict b ≡ accepted) where
   sound = record {
     headers = rule6-sound .0;
     dsds = rule6-sound .1;
+    typed = rule8-sound;
     numbers = rule10-sound;
     inside = rule12-sound;
     apart = rule13-sound;

@@ -25,7 +25,7 @@ use Rattle.layout.specs.Order.{sorted, select, nonEmptyAt, startAt, nonE
 use Rattle.layout.proofs.Laws.{lt-or-le, and-T, ltZ-T}
 use Rattle.layout.proofs.Chain.{All, Some, Pairs, In, Apart, Inside, Chain, chain, joined, chain-joined, all-map, tally, sorted-all, sorted-some, sorted-pairs, sorted-sorted, sorted-count, starting-before, ranks}
 use Rattle.layout.proofs.Faults.{Byte, Fixed, Variable, NumbersFit, Filled, nonEmpty-extent, fixed-T, variable-T, sum-replicate}
-use Rattle.layout.proofs.Sound.{Sound, sound}
+use Rattle.layout.proofs.Sound.{Sound, sound, no-records}
 
 -- ---- what is claimed
 
@@ -44,7 +44,7 @@ Lies b p mainHeader = p < 1247
 Lies b p specificHeader = (1247 ≤ p) × (p < headersEnd b)
 Lies b p (record′ i j) =
     let e = at (directory b) i in
-    (i < length (directory b)) × T (nonEmpty e) × (j < length (lengths (statesIn b) e)) × (recordAt (statesIn b) e j ≤ p) × (p < recordAt (statesIn b) e j + recordLength (statesIn b) e j)
+    (i < length (directory b)) × (j < length (lengths (statesIn b) e)) × (recordAt (statesIn b) e j ≤ p) × (p < recordAt (statesIn b) e j + recordLength (statesIn b) e j)
 
 -- every byte lies in the main header, the specific header or one record of one set, and in no two of them
 abbrev pub EachByteOnce : List ℕ → Type 0
@@ -268,14 +268,23 @@ same-record ns j k q a c d e = go (lt-or-le j k) (lt-or-le k j)
     go (inr h) (inr u) = omega arith
 
 module _ (b : List ℕ) (m : Sound b) where
+  -- an entry that has a record is a non-empty set
+  has-bytes : (i j : ℕ) → i < length (directory b) → j < length (lengths (statesIn b) (at (directory b) i)) → T (nonEmpty (at (directory b) i))
+  has-bytes i j l h = go (nonEmpty (at (directory b) i)) refl
+    where
+      go : (t : Bool) → nonEmpty (at (directory b) i) ≡ t → T t
+      go true x = tt
+      go false x = not-suc-le-zero (rw (no-records (at (directory b) i) (m .numbers i l) (m .typed i l) x (statesIn b)) at h)
+
   -- a record lies in its set
   pub in-set : (p i j : ℕ) → Lies b p (record′ i j) → Byte (at (directory b) i) p
   unfolding recordAt recordLength
   in-set p i j h =
       let ns = lengths (statesIn b) (at (directory b) i) in
-      let e = ends ns j (length ns) (h .2) in
-      let f : sum (take (length ns) ns) ≡ extent (at (directory b) i) = rw (take-length ns) (filled-set b m i (h .0) (h .1)) in
-      (h .1, (omega (arith, h .3), omega (arith, h .4, e, f)))
+      let full = has-bytes i j (h .0) (h .1) in
+      let e = ends ns j (length ns) (h .1) in
+      let f : sum (take (length ns) ns) ≡ extent (at (directory b) i) = rw (take-length ns) (filled-set b m i (h .0) full) in
+      (full, (omega (arith, h .2), omega (arith, h .3, e, f)))
 
   same-entry : (p i k : ℕ) → i < length (directory b) → k < length (directory b) → Byte (at (directory b) i) p → Byte (at (directory b) k) p → k ≡ i
   same-entry p i k l n u v = go (lt-or-le i k) (lt-or-le k i)
@@ -286,12 +295,12 @@ module _ (b : List ℕ) (m : Sound b) where
       go (inr h) (inr w) = omega arith
 
   beyond : (p i j : ℕ) → Lies b p (record′ i j) → headersEnd b ≤ p
-  beyond p i j h = omega (arith, m .inside i (h .0) (h .1) .0, in-set p i j h .1 .0)
+  beyond p i j h = omega (arith, m .inside i (h .0) (has-bytes i j (h .0) (h .1)) .0, in-set p i j h .1 .0)
 
   one-record : (p i j l : ℕ) → Lies b p (record′ i j) → Lies b p (record′ i l) → l ≡ j
   unfolding recordAt recordLength
   one-record p i j l h v =
-      same-record (lengths (statesIn b) (at (directory b) i)) j l (p - start (at (directory b) i)) (omega (arith, h .3)) (omega (arith, h .3, h .4)) (omega (arith, v .3)) (omega (arith, v .3, v .4))
+      same-record (lengths (statesIn b) (at (directory b) i)) j l (p - start (at (directory b) i)) (omega (arith, h .2)) (omega (arith, h .2, h .3)) (omega (arith, v .2)) (omega (arith, v .2, v .3))
 
   once : (p i j : ℕ) → Lies b p (record′ i j) → (v : Part) → Lies b p v → v ≡ record′ i j
   once p i j h mainHeader v = absurd (omega (arith, after-main b m, beyond p i j h))
@@ -308,7 +317,7 @@ module _ (b : List ℕ) (m : Sound b) where
       let f = filled-set b m (r .0) (r .1) (r .2 .0) in
       let x = r .2 .1 in
       let s = locate (lengths (statesIn b) (at (directory b) (r .0))) (p - start (at (directory b) (r .0))) (omega (arith, f, x)) in
-      (r .0, s .0, (r .1, r .2 .0, s .1, omega (arith, s .2, x), omega (arith, s .3, x)))
+      (r .0, s .0, (r .1, s .1, omega (arith, s .2, x), omega (arith, s .3, x)))
 
   pub each-byte-once : EachByteOnce b
   each-byte-once p l = go (lt-or-le p 1247) (lt-or-le p (headersEnd b))
