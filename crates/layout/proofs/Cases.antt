@@ -19,8 +19,10 @@ use Rattle.layout.specs.States.{stateOf, stateFits, attached, stateCount
 use Rattle.layout.specs.Rules.{rule1, rule2, rule3, rule4, rule5, sphFits, dsdsFit, rule6, rule7At, rule7, linesOf, rule8At, rule8, rule9At, rule9, rule10At, rule10, isCountedAt, dataSets, rule11, setInside, rule12At, rule12, sharesAt, rule13At, rule13, holdsAt, rule14At, rule14, isVariableAt, statesFit, rule15, isFilled, rule16At, rule16, headerRules, stateRules, verdict}
 use Rattle.layout.specs.Records.{variableLengths, lengths, recordAt, recordLength, recordPart, Span, recordRefusal, recordPlace}
 use Rattle.layout.specs.Fields.{Value, integer, Position, shapeOf, bytesOf, valueAt, recordOf, endsIn, fieldRefusal, fieldIn, fieldReply, quotient, degrees, metres, inLimits, positionAt, pointRefusal, pointIn, pointReply}
-use Rattle.layout.specs.Listing.{digitsBefore, decimal, signedDecimal, before, trimmed, lineOf, entryLine, acceptedLines, listingFor, listing}
-use Rattle.layout.proofs.Build.{plus, dsdOf, mphOf, productOf}
+use Rattle.layout.specs.Listing.{digitsBefore, decimal, signedDecimal, putBefore, trimmed, lineOf, entryLine, acceptedLines, listingFor, listing}
+use Rattle.layout.specs.Answers.{headerOf, padded, directoryOf}
+use Rattle.layout.specs.declared.MainHeader.{MainHeader}
+use Rattle.layout.proofs.Build.{Given, given, quote, plus, header, dsdOf, mphOf, productOf}
 
 -- ---- the products
 
@@ -98,7 +100,7 @@ table =
 
 -- cases A to L
 cases-A-to-L : map (λ k. answer (k .product) (k .ask)) table ≡ map (λ k. k .want) table
-unfolding table answer part byteAt unsignedAt twosComplement signedAt fits valueClasses lineClasses layout valueWidth quoteWidth placeOf widthOf valueOf digits numberOf whole mph dsd spareDsd first some count find sum firstRule laidOut headerNumber totSize sphSize numDsd dsdSize numDataSets headersEnd entries dsdAt dsdBytes entryOf entryAt directory at isData isReference called nonEmpty start extent holds shares isCounted kindOf isVariable isStates isFixed allZero inRange setFits numbersFit sphLines ended blanks unquoted quoted value keyword line lineBegins stateOf stateFits attached stateCount stateLengths stateBytes isStatesAt statesEntry stateAt stateIn statesOf firstBad countOf totalOf tallyOf ofKind rule1 rule2 rule3 rule4 rule5 sphFits dsdsFit rule6 rule7At rule7 linesOf rule8At rule8 rule9At rule9 rule10At rule10 isCountedAt dataSets rule11 setInside rule12At rule12 sharesAt rule13At rule13 holdsAt rule14At rule14 isVariableAt statesFit rule15 isFilled rule16At rule16 headerRules stateRules verdict variableLengths lengths recordAt recordLength recordPart recordRefusal recordPlace shapeOf bytesOf valueAt recordOf endsIn fieldRefusal fieldIn fieldReply quotient degrees metres inLimits positionAt pointRefusal pointIn pointReply ofInt ofBits div digitsBefore decimal signedDecimal before trimmed lineOf entryLine acceptedLines listingFor listing
+unfolding table answer part byteAt unsignedAt twosComplement signedAt fits valueClasses lineClasses layout valueWidth quoteWidth placeOf widthOf valueOf digits numberOf whole mph dsd spareDsd first some count find sum firstRule laidOut headerNumber totSize sphSize numDsd dsdSize numDataSets headersEnd entries dsdAt dsdBytes entryOf entryAt directory at isData isReference called nonEmpty start extent holds shares isCounted kindOf isVariable isStates isFixed allZero inRange setFits numbersFit sphLines ended blanks unquoted quoted value keyword line lineBegins stateOf stateFits attached stateCount stateLengths stateBytes isStatesAt statesEntry stateAt stateIn statesOf firstBad countOf totalOf tallyOf ofKind rule1 rule2 rule3 rule4 rule5 sphFits dsdsFit rule6 rule7At rule7 linesOf rule8At rule8 rule9At rule9 rule10At rule10 isCountedAt dataSets rule11 setInside rule12At rule12 sharesAt rule13At rule13 holdsAt rule14At rule14 isVariableAt statesFit rule15 isFilled rule16At rule16 headerRules stateRules verdict variableLengths lengths recordAt recordLength recordPart recordRefusal recordPlace shapeOf bytesOf valueAt recordOf endsIn fieldRefusal fieldIn fieldReply quotient degrees metres inLimits positionAt pointRefusal pointIn pointReply ofInt ofBits div digitsBefore decimal signedDecimal putBefore trimmed lineOf entryLine acceptedLines listingFor listing
 cases-A-to-L = refl
 
 -- ---- beyond A to L: states, unequal records, spares, SPH lines, the listing
@@ -139,5 +141,72 @@ others =
     ∷ []
 
 other-cases : map (λ k. answer (k .product) (k .ask)) others ≡ map (λ k. k .want) others
-unfolding others answer part byteAt unsignedAt twosComplement signedAt fits valueClasses lineClasses layout valueWidth quoteWidth placeOf widthOf valueOf digits numberOf whole mph dsd spareDsd first some count find sum firstRule laidOut headerNumber totSize sphSize numDsd dsdSize numDataSets headersEnd entries dsdAt dsdBytes entryOf entryAt directory at isData isReference called nonEmpty start extent holds shares isCounted kindOf isVariable isStates isFixed allZero inRange setFits numbersFit sphLines ended blanks unquoted quoted value keyword line lineBegins stateOf stateFits attached stateCount stateLengths stateBytes isStatesAt statesEntry stateAt stateIn statesOf firstBad countOf totalOf tallyOf ofKind rule1 rule2 rule3 rule4 rule5 sphFits dsdsFit rule6 rule7At rule7 linesOf rule8At rule8 rule9At rule9 rule10At rule10 isCountedAt dataSets rule11 setInside rule12At rule12 sharesAt rule13At rule13 holdsAt rule14At rule14 isVariableAt statesFit rule15 isFilled rule16At rule16 headerRules stateRules verdict variableLengths lengths recordAt recordLength recordPart recordRefusal recordPlace shapeOf bytesOf valueAt recordOf endsIn fieldRefusal fieldIn fieldReply quotient degrees metres inLimits positionAt pointRefusal pointIn pointReply ofInt ofBits div digitsBefore decimal signedDecimal before trimmed lineOf entryLine acceptedLines listingFor listing
+unfolding others answer part byteAt unsignedAt twosComplement signedAt fits valueClasses lineClasses layout valueWidth quoteWidth placeOf widthOf valueOf digits numberOf whole mph dsd spareDsd first some count find sum firstRule laidOut headerNumber totSize sphSize numDsd dsdSize numDataSets headersEnd entries dsdAt dsdBytes entryOf entryAt directory at isData isReference called nonEmpty start extent holds shares isCounted kindOf isVariable isStates isFixed allZero inRange setFits numbersFit sphLines ended blanks unquoted quoted value keyword line lineBegins stateOf stateFits attached stateCount stateLengths stateBytes isStatesAt statesEntry stateAt stateIn statesOf firstBad countOf totalOf tallyOf ofKind rule1 rule2 rule3 rule4 rule5 sphFits dsdsFit rule6 rule7At rule7 linesOf rule8At rule8 rule9At rule9 rule10At rule10 isCountedAt dataSets rule11 setInside rule12At rule12 sharesAt rule13At rule13 holdsAt rule14At rule14 isVariableAt statesFit rule15 isFilled rule16At rule16 headerRules stateRules verdict variableLengths lengths recordAt recordLength recordPart recordRefusal recordPlace shapeOf bytesOf valueAt recordOf endsIn fieldRefusal fieldIn fieldReply quotient degrees metres inLimits positionAt pointRefusal pointIn pointReply ofInt ofBits div digitsBefore decimal signedDecimal putBefore trimmed lineOf entryLine acceptedLines listingFor listing
 other-cases = refl
+
+-- ---- the 34 header values, and a directory
+
+-- every value of the main header, each with its own text or number
+abbrev allGiven : List Given
+allGiven =
+    given "PRODUCT" (quote 62 (replicate 62 65))
+    ∷ given "PROC_STAGE" (66 ∷ [])
+    ∷ given "REF_DOC" (quote 23 (replicate 23 67))
+    ∷ given "ACQUISITION_STATION" (quote 20 (replicate 20 68))
+    ∷ given "PROC_CENTER" (quote 6 (replicate 6 69))
+    ∷ given "PROC_TIME" (quote 27 (replicate 27 70))
+    ∷ given "SOFTWARE_VER" (quote 14 (replicate 14 71))
+    ∷ given "SENSING_START" (quote 27 (replicate 27 72))
+    ∷ given "SENSING_STOP" (quote 27 (replicate 27 73))
+    ∷ given "PHASE" (74 ∷ [])
+    ∷ given "CYCLE" (bytes "-012")
+    ∷ given "REL_ORBIT" (bytes "+00345")
+    ∷ given "ABS_ORBIT" (bytes "-00000")
+    ∷ given "STATE_VECTOR_TIME" (quote 27 (replicate 27 78))
+    ∷ given "DELTA_UT1" (bytes "-.123456")
+    ∷ given "X_POSITION" (bytes "+1234567.891")
+    ∷ given "Y_POSITION" (bytes "-1234567.892")
+    ∷ given "Z_POSITION" (bytes "+9999999.999")
+    ∷ given "X_VELOCITY" (bytes "-1234.567893")
+    ∷ given "Y_VELOCITY" (bytes "+0000.000001")
+    ∷ given "Z_VELOCITY" (bytes "-0000.000002")
+    ∷ given "VECTOR_SOURCE" (quote 2 (replicate 2 86))
+    ∷ given "UTC_SBT_TIME" (quote 27 (replicate 27 87))
+    ∷ given "SAT_BINARY_TIME" (bytes "+4294967295")
+    ∷ given "CLOCK_STEP" (bytes "-9999999999")
+    ∷ given "LEAP_UTC" (quote 27 (replicate 27 90))
+    ∷ given "LEAP_SIGN" (bytes "-001")
+    ∷ given "LEAP_ERR" (49 ∷ [])
+    ∷ given "PRODUCT_ERR" (48 ∷ [])
+    ∷ given "TOT_SIZE" (bytes "+09223372036854775807")
+    ∷ given "SPH_SIZE" (bytes "+0000000011")
+    ∷ given "NUM_DSD" (bytes "-0000000012")
+    ∷ given "DSD_SIZE" (bytes "+0000000013")
+    ∷ given "NUM_DATA_SETS" (bytes "-0000000014")
+    ∷ []
+
+allValues : MainHeader
+allValues =
+    record {
+      identity = record { «product» = replicate 62 65; «proc_stage» = 66; «ref_doc» = replicate 23 67; «acquisition_station» = replicate 20 68; «proc_center» = replicate 6 69; «proc_time» = replicate 27 70; «software_ver» = replicate 14 71 };
+      sensing = record { «sensing_start» = replicate 27 72; «sensing_stop» = replicate 27 73; «phase» = 74; «cycle» = negsuc 11; «rel_orbit» = pos 345; «abs_orbit» = pos 0 };
+      orbit = record { «state_vector_time» = replicate 27 78; «delta_ut1» = negsuc 123455; «x_position» = pos 1234567891; «y_position» = negsuc 1234567891; «z_position» = pos 9999999999; «x_velocity» = negsuc 1234567892; «y_velocity» = pos 1; «z_velocity» = negsuc 1; «vector_source» = replicate 2 86 };
+      clock = record { «utc_sbt_time» = replicate 27 87; «sat_binary_time» = pos 4294967295; «clock_step» = negsuc 9999999998; «leap_utc» = replicate 27 90; «leap_sign» = negsuc 0; «leap_err» = 49 };
+      sizes = record { «product_err» = 48; «tot_size» = pos 9223372036854775807; «sph_size» = pos 11; «num_dsd» = negsuc 11; «dsd_size» = pos 13; «num_data_sets» = negsuc 13 };
+    }
+
+header-values : headerOf (header mph allGiven) ≡ allValues
+unfolding allValues headerOf headerNumber mph part byteAt lineClasses valueClasses valueWidth quoteWidth placeOf widthOf valueOf digits numberOf whole
+header-values = refl
+
+-- of the product with a spare, an R, an empty set and a set
+abbrev mixedOffsets : List ℕ
+mixedOffsets = 0 ∷ 0 ∷ 99 ∷ 2384 ∷ replicate 124 0
+
+mixed-directory :
+    (directoryOf (directory mixed) .types ≡ 32 ∷ 82 ∷ 65 ∷ 71 ∷ replicate 124 0)
+    × ((directoryOf (directory mixed) .offsets ≡ mixedOffsets)
+    × ((directoryOf (directory mixed) .«record_sizes» ≡ pos 0 ∷ pos 0 ∷ negsuc 0 ∷ pos 2 ∷ replicate 124 (pos 0))
+    × (take 58 (directoryOf (directory mixed) .names) ≡ replicate 28 32 ++ (bytes "AUX" ++ (replicate 25 32 ++ bytes "NO")))))
+unfolding directoryOf padded part byteAt unsignedAt twosComplement signedAt fits valueClasses lineClasses layout valueWidth quoteWidth placeOf widthOf valueOf digits numberOf whole mph dsd spareDsd first some count find sum firstRule laidOut headerNumber totSize sphSize numDsd dsdSize numDataSets headersEnd entries dsdAt dsdBytes entryOf entryAt directory at isData isReference called nonEmpty start extent holds shares isCounted kindOf isVariable isStates isFixed allZero inRange setFits numbersFit sphLines ended blanks unquoted quoted value keyword line lineBegins stateOf stateFits attached stateCount stateLengths stateBytes isStatesAt statesEntry stateAt stateIn statesOf firstBad countOf totalOf tallyOf ofKind rule1 rule2 rule3 rule4 rule5 sphFits dsdsFit rule6 rule7At rule7 linesOf rule8At rule8 rule9At rule9 rule10At rule10 isCountedAt dataSets rule11 setInside rule12At rule12 sharesAt rule13At rule13 holdsAt rule14At rule14 isVariableAt statesFit rule15 isFilled rule16At rule16 headerRules stateRules verdict variableLengths lengths recordAt recordLength recordPart recordRefusal recordPlace shapeOf bytesOf valueAt recordOf endsIn fieldRefusal fieldIn fieldReply quotient degrees metres inLimits positionAt pointRefusal pointIn pointReply ofInt ofBits div digitsBefore decimal signedDecimal putBefore trimmed lineOf entryLine acceptedLines
+mixed-directory = (refl, (refl, (refl, refl)))

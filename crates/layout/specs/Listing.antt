@@ -30,15 +30,15 @@ unfoldable pub signedDecimal : ℤ → List ℕ
 signedDecimal (pos n) = decimal n
 signedDecimal (negsuc n) = 45 ∷ decimal (suc n)
 
--- a byte before a text; a blank before nothing is left out
-unfoldable pub before : ℕ → List ℕ → List ℕ
-before x [] = cond (eqb x 32) [] (x ∷ [])
-before x (y ∷ ys) = x ∷ y ∷ ys
+-- a byte put before a text; a blank before nothing is left out
+unfoldable pub putBefore : ℕ → List ℕ → List ℕ
+putBefore x [] = cond (eqb x 32) [] (x ∷ [])
+putBefore x (y ∷ ys) = x ∷ y ∷ ys
 
 -- a text without its trailing blanks
 unfoldable pub trimmed : List ℕ → List ℕ
 trimmed [] = []
-trimmed (x ∷ xs) = before x (trimmed xs)
+trimmed (x ∷ xs) = putBefore x (trimmed xs)
 
 -- words with a blank between them, and byte 10
 unfoldable pub lineOf : List (List ℕ) → List ℕ
