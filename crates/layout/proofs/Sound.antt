@@ -119,17 +119,8 @@ module _ (e : Entry) (fit : NumbersFit e) (typed : Typed e) (empty : nonEmpty e 
   unfolding lengths
   no-records ss = rw (not-variable, no-count)
 
-module _ (b : List ℕ) (h : verdict b ≡ accepted) where
-  accepted-headers : firstRule headerRules b (length b) ≡ accepted
-  unfolding verdict
-  accepted-headers = orElse-accepts (firstRule headerRules b (length b)) (stateRules (directory b) (tallyOf (statesOf b (directory b)))) .0 h .0
-
-  accepted-states : rule16 (directory b) (tallyOf (statesOf b (directory b))) ≡ accepted
-  unfolding verdict stateRules
-  accepted-states =
-      orElse-accepts (rule15 (directory b) (tallyOf (statesOf b (directory b)))) (rule16 (directory b) (tallyOf (statesOf b (directory b)))) .0
-      (orElse-accepts (firstRule headerRules b (length b)) (stateRules (directory b) (tallyOf (statesOf b (directory b)))) .0 h .1) .1
-
+-- rules 1 to 14 hold
+module _ (b : List ℕ) (h : firstRule headerRules b (length b) ≡ accepted) where
   abbrev Accepts : Type 0
   Accepts =
       (rule6 b (length b) ≡ accepted)
@@ -142,41 +133,51 @@ module _ (b : List ℕ) (h : verdict b ≡ accepted) where
   rules-accept : Accepts
   unfolding headerRules firstRule
   rules-accept =
-      let r = simp orElse-accepts at accepted-headers in
+      let r = simp orElse-accepts at h in
       let r6 = r .1 .1 .1 .1 .1 in
       let r8 = r6 .1 .1 in
       let r10 = r8 .1 .1 in
       (r6 .0, (r8 .0, (r10 .0, (r10 .1 .1 .0, (r10 .1 .1 .1 .0, r10 .1 .1 .1 .1 .0)))))
 
-  rule6-sound : (headersEnd b ≤ length b) × (280 * entries b ≤ sphSize b .magnitude)
+  pub rule6-sound : (headersEnd b ≤ length b) × (280 * entries b ≤ sphSize b .magnitude)
   unfolding rule6 sphFits dsdsFit
   rule6-sound = let r = simp tests at (rules-accept .0) in (r .0 .1, r .1 .0 .1)
 
-  rule8-sound : (i : ℕ) → i < length (directory b) → Typed (at (directory b) i)
+  pub rule8-sound : (i : ℕ) → i < length (directory b) → Typed (at (directory b) i)
   unfolding rule8 rule8At entryAt
   rule8-sound i l =
       let m : i < entries b = omega (arith, length-directory b) in
       let r = simp first-accepts-0 at (rules-accept .1 .0) in
       rw (at-directory b i m) (laidOut-typed (dsdBytes b i) 8 i (dsdAt b i) (r i m))
 
-  rule10-sound : (i : ℕ) → i < length (directory b) → NumbersFit (at (directory b) i)
+  pub rule10-sound : (i : ℕ) → i < length (directory b) → NumbersFit (at (directory b) i)
   unfolding rule10 rule10At
   rule10-sound i l =
       let m : i < entries b = omega (arith, length-directory b) in
       let r = simp (first-accepts-0, need-accepts, numbers-T) at (rules-accept .1 .1 .0) in
       rw (at-directory b i m) (r i m)
 
-  rule12-sound : (i : ℕ) → i < length (directory b) → T (nonEmpty (at (directory b) i)) → (headersEnd b ≤ start (at (directory b) i)) × (start (at (directory b) i) + extent (at (directory b) i) ≤ length b)
+  pub rule12-sound : (i : ℕ) → i < length (directory b) → T (nonEmpty (at (directory b) i)) → (headersEnd b ≤ start (at (directory b) i)) × (start (at (directory b) i) + extent (at (directory b) i) ≤ length b)
   unfolding rule12 rule12At setInside
   rule12-sound = simp tests at (rules-accept .1 .1 .1 .0)
 
-  rule13-sound : (i : ℕ) → i < length (directory b) → ((j : ℕ) × (j < i) × ((p : ℕ) × (Byte (at (directory b) i) p × Byte (at (directory b) j) p))) → ⊥
+  pub rule13-sound : (i : ℕ) → i < length (directory b) → ((j : ℕ) × (j < i) × ((p : ℕ) × (Byte (at (directory b) i) p × Byte (at (directory b) j) p))) → ⊥
   unfolding rule13 rule13At sharesAt
   rule13-sound = simp (tests, shares-T) at (rules-accept .1 .1 .1 .1 .0)
 
-  rule14-sound : (p : ℕ) → headersEnd b ≤ p → p < length b → (i : ℕ) × (i < length (directory b)) × Byte (at (directory b) i) p
+  pub rule14-sound : (p : ℕ) → headersEnd b ≤ p → p < length b → (i : ℕ) × (i < length (directory b)) × Byte (at (directory b) i) p
   unfolding rule14 rule14At holdsAt
   rule14-sound p l u = let r = simp (first-accepts, tests, holds-T) at (rules-accept .1 .1 .1 .1 .1) in r p l (omega (arith, rule6-sound .0))
+
+-- all rules hold
+module _ (b : List ℕ) (h : verdict b ≡ accepted) where
+  both-accept : (firstRule headerRules b (length b) ≡ accepted) × (stateRules (directory b) (tallyOf (statesOf b (directory b))) ≡ accepted)
+  unfolding verdict
+  both-accept = orElse-accepts (firstRule headerRules b (length b)) (stateRules (directory b) (tallyOf (statesOf b (directory b)))) .0 h
+
+  accepted-states : rule16 (directory b) (tallyOf (statesOf b (directory b))) ≡ accepted
+  unfolding stateRules
+  accepted-states = orElse-accepts (rule15 (directory b) (tallyOf (statesOf b (directory b)))) (rule16 (directory b) (tallyOf (statesOf b (directory b)))) .0 (both-accept .1) .1
 
   rule16-sound : (i : ℕ) → i < length (directory b) → Variable (at (directory b) i) → Filled b (directory b) (at (directory b) i)
   unfolding rule16 rule16At
@@ -186,13 +187,15 @@ module _ (b : List ℕ) (h : verdict b ≡ accepted) where
       filled-T b (directory b) (at (directory b) i) t .0 (r i l t)
 
   pub sound : Sound b
-  sound = record {
-    headers = rule6-sound .0;
-    dsds = rule6-sound .1;
-    typed = rule8-sound;
-    numbers = rule10-sound;
-    inside = rule12-sound;
-    apart = rule13-sound;
-    covered = rule14-sound;
-    filled = rule16-sound;
-  }
+  sound =
+      let k = both-accept .0 in
+      record {
+        headers = rule6-sound b k .0;
+        dsds = rule6-sound b k .1;
+        typed = rule8-sound b k;
+        numbers = rule10-sound b k;
+        inside = rule12-sound b k;
+        apart = rule13-sound b k;
+        covered = rule14-sound b k;
+        filled = rule16-sound;
+      }
