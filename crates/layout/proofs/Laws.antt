@@ -245,6 +245,17 @@ module _ (t : ℕ → Bool) where
   unfolding find
   find-end n = let q : n - n ≡ 0 = omega arith in rw q
 
+  -- a loop that looks for the first number that passes, at i, with nothing found from `from` on
+  module _ (from n i : ℕ) (left : find t from (n - from) ≡ find t i (n - i)) where
+    pub find-hit : i < n → t i ≡ true → i ≡ find t from (n - from)
+    find-hit h e = sym (left ∙ find-step i n h ∙ rw e)
+
+    pub find-next : i < n → t i ≡ false → find t from (n - from) ≡ find t (i + 1) (n - (i + 1))
+    find-next h e = left ∙ find-step i n h ∙ rw e
+
+    pub find-none : i ≤ n → n ≤ i → n ≡ find t from (n - from)
+    find-none h l = let q : i ≡ n = omega arith in sym (left ∙ rw q (find-end n))
+
   pub find-bounds : (i n : ℕ) → (i ≤ find t i n) × (find t i n ≤ i + n)
   unfolding find
   find-bounds i zero = (omega arith, omega arith)
@@ -316,3 +327,30 @@ laidOut-fits d n e (c ∷ ks) (x ∷ b) p h =
         at : (k : ℕ) → k < length (c ∷ ks) → T (fits (getD (c ∷ ks) k d) (getD (x ∷ b) k 0))
         at zero l = here
         at (suc k) l = below .1 k (le-of-suc-le-suc l)
+
+-- ---- counting by finding
+
+module _ (t : ℕ → Bool) where
+  -- none from i on passes: as many as find says
+  pub count-none : (i n : ℕ) → find t i n ≡ i + n → count t i n ≡ 0
+  unfolding find count
+  count-none i zero h = refl
+  count-none i (suc n) h = go (t i) h (count-none (suc i) n)
+    where
+      go : (u : Bool) → cond u i (find t (suc i) n) ≡ i + suc n → (find t (suc i) n ≡ suc i + n → count t (suc i) n ≡ 0) → cond u 1 0 + count t (suc i) n ≡ 0
+      go true h below = absurd (omega arith)
+      go false h below = rw (below (omega arith))
+
+  -- one passes, and then as many as pass behind it
+  pub count-found : (i n : ℕ) → find t i n < i + n → count t i n ≡ suc (count t (suc (find t i n)) (i + n - suc (find t i n)))
+  unfolding find count
+  count-found i zero h = absurd (omega arith)
+  count-found i (suc n) h = go (t i) h (count-found (suc i) n)
+    where
+      go : (u : Bool) → cond u i (find t (suc i) n) < i + suc n
+          → (find t (suc i) n < suc i + n → count t (suc i) n ≡ suc (count t (suc (find t (suc i) n)) (suc i + n - suc (find t (suc i) n))))
+          → cond u 1 0 + count t (suc i) n ≡ suc (count t (suc (cond u i (find t (suc i) n))) (i + suc n - suc (cond u i (find t (suc i) n))))
+      go true h below = let q : i + suc n - suc i ≡ n = omega arith in rw q (omega arith)
+      go false h below =
+          let q : i + suc n - suc (find t (suc i) n) ≡ suc i + n - suc (find t (suc i) n) = omega arith in
+          rw (q, below (omega arith)) (omega arith)
