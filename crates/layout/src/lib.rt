@@ -1,7 +1,8 @@
 // The answers of the reader, as document 01 names them. `specs/` beside this file is document 01 as definitions; the promises of the crates above
 // cite both.
 ghost use mathlib.Core.Path.{_≡_};
-ghost use Rattle.layout.specs.Answers.{noHeader, noDirectory};
+ghost use Rattle.layout.specs.Answer.{refused, refusal};
+ghost use Rattle.layout.specs.Answers.{verdictIs, placeIs, noHeader, noDirectory};
 
 // A refusal carries these three and nothing else. The place is a byte offset; the entry is 0 to 127, or 128 for none.
 pub struct Refusal {
@@ -16,10 +17,34 @@ pub enum Verdict {
     Refused(Refusal),
 }
 
+impl Verdict {
+    pub fn refuse(number: u8, place: u64, entry: usize) -> Verdict
+        ensures { λ r. ⌜ verdictIs r ≡ refused number place entry ⌝ }
+    {
+        Verdict::Refused(Refusal {
+            number,
+            place,
+            entry,
+        })
+    }
+}
+
 // Where the SPH lines or a record stand in the product.
 pub enum Place {
     At { place: u64, length: u64 },
     Refused(Refusal),
+}
+
+impl Place {
+    pub fn refuse(number: u8, place: u64, entry: usize) -> Place
+        ensures { λ r. ⌜ placeIs r ≡ refusal number place entry ⌝ }
+    {
+        Place::Refused(Refusal {
+            number,
+            place,
+            entry,
+        })
+    }
 }
 
 // An mjd: days from 1 January 2000, seconds, microseconds.

@@ -1,0 +1,13 @@
+-- `layout::Verdict::refuse` meets its contract.
+-- Assumes nothing.
+use mathlib.Core.Path.{_≡_, refl}
+use Rattle.layout.specs.Answers.{verdictIs}
+use Rattle.layout.proofs.Verdict.refuse.Statement.{statement}
+use Rattle.layout.proofs.Verdict.refuse.Tie as tie
+
+returns : tie.Need-returns
+unfolding verdictIs
+returns c = refl
+
+pub refuse-spec : {M : Type 1} → statement M
+refuse-spec = tie.close (tie.spec returns)
