@@ -3,6 +3,7 @@ pub mod Cases
 pub mod Starts
 pub mod Laws
 pub mod Types
+pub mod Widths
 pub mod Judges
 pub mod Faults
 pub mod Exactly

@@ -1,7 +1,7 @@
 -- What an accepted product's directory has, for the theorems above it: numbers that fit, sets that lie inside, apart, and cover all that follows
 -- the headers, and variable sets that their states fill.
 -- Assumes nothing.
-use Prim.Native.Nat.{ℕ, zero, suc, _+_, _*_, _-_, _≤_, _<_}
+use Prim.Native.Nat.{ℕ, zero, suc, _+_, _*_, _-_, _^_, _≤_, _<_}
 use mathlib.Core.Bool.{Bool, true, false, cond, _&&_, _||_, not}
 use mathlib.Core.Logic.{_↔_, _⊎_, inl, inr}
 use mathlib.Core.List.{List, [], _∷_, _++_, map}
@@ -22,6 +22,7 @@ use Rattle.layout.specs.Records.{lengths}
 use Rattle.layout.specs.Rules.{rule6, sphFits, dsdsFit, rule8, rule8At, rule10, rule10At, rule12, rule12At, setInside, rule13, rule13At, sharesAt, rule14, rule14At, holdsAt, rule15, rule16, rule16At, isFilled, headerRules, stateRules, verdict}
 use Rattle.layout.proofs.Laws.{and-T, imp-T, not-T′, leb-T, eqb-T, leZ-T, ltZ-T, eqZ-T, need-accepts, orElse-accepts, where-accepts, first-accepts, first-accepts-0, some-T}
 use Rattle.layout.proofs.Types.{Typed, laidOut-typed}
+use Rattle.layout.proofs.Widths.{count-small}
 use Rattle.layout.proofs.Faults.{Byte, NumbersFit, Variable, Filled, holds-T, shares-T, numbers-T, variable-T, filled-T}
 
 ruleset tests = (need-accepts, orElse-accepts, where-accepts, first-accepts-0, some-T, and-T, imp-T, not-T′, leb-T, eqb-T, eqZ-T, leZ-T, ltZ-T)
@@ -149,6 +150,14 @@ module _ (b : List ℕ) (h : firstRule headerRules b (length b) ≡ accepted) wh
       let m : i < entries b = omega (arith, length-directory b) in
       let r = simp first-accepts-0 at (rules-accept .1 .0) in
       rw (at-directory b i m) (laidOut-typed (dsdBytes b i) 8 i (dsdAt b i) (r i m))
+
+  -- NUM_DSR has ten digits
+  pub count-sound : (i : ℕ) → i < length (directory b) → at (directory b) i .count .magnitude < 10 ^ 10
+  unfolding rule8 rule8At entryAt
+  count-sound i l =
+      let m : i < entries b = omega (arith, length-directory b) in
+      let r = simp first-accepts-0 at (rules-accept .1 .0) in
+      rw (at-directory b i m) (count-small (dsdBytes b i) 8 i (dsdAt b i) (r i m))
 
   pub rule10-sound : (i : ℕ) → i < length (directory b) → NumbersFit (at (directory b) i)
   unfolding rule10 rule10At

@@ -37,25 +37,31 @@ abbrev pub Typed : Entry → Type 0
 Typed e = T (member (e .type) (bytes "MAGR")) ⊎ ((e .type ≡ 32) × (e .count .magnitude ≡ 0))
 
 module _ (d : List ℕ) where
+  -- a spare as laid out
+  pub spare-blank : ((k : ℕ) → k < length (layout spareDsd) → T (fits (getD (layout spareDsd) k plain) (getD d k 0))) → (k : ℕ) → k < 279 → getD d k 0 ≡ 32
+  unfolding fits
+  spare-blank all k l = eqb→eq (getD d k 0) 32 (rw (spare-class k l) at (all k (omega (arith, spare-length))))
+
+  pub spare-count : ((k : ℕ) → k < 279 → getD d k 0 ≡ 32) → 280 ≤ length d → entryOf d .count .magnitude ≡ 0
+  unfolding entryOf valueOf placeOf widthOf dsd lineClasses valueClasses quoteWidth valueWidth numberOf digits
+  spare-count all h = rw (blank-part d 207 11 (omega arith) (λ k l. all k (omega arith)))
+
   spare-typed : ((k : ℕ) → k < 279 → getD d k 0 ≡ 32) → 280 ≤ length d → Typed (entryOf d)
-  unfolding entryOf valueOf placeOf widthOf dsd lineClasses valueClasses quoteWidth valueWidth byteAt numberOf digits
-  spare-typed all h = inr (
-    rw (blank-part d 47 1 (omega arith) (λ k l. all k (omega arith))),
-    rw (blank-part d 207 11 (omega arith) (λ k l. all k (omega arith))),
-  )
+  unfolding entryOf valueOf placeOf widthOf dsd lineClasses valueClasses quoteWidth valueWidth byteAt
+  spare-typed all h = inr (rw (blank-part d 47 1 (omega arith) (λ k l. all k (omega arith))), spare-count all h)
 
   named-typed : T (fits (getD (layout dsd) 47 plain) (getD d 47 0)) → 280 ≤ length d → Typed (entryOf d)
   unfolding entryOf valueOf placeOf widthOf dsd lineClasses valueClasses quoteWidth valueWidth byteAt part layout fits
   named-typed h l = inl (rw (getD-take 1 (drop 47 d) 0 0 (omega arith), getD-drop 47 d 0 0) h)
 
   pub laidOut-typed : (n e p : ℕ) → laidOut n e p (layout (linesOf d)) d ≡ accepted → Typed (entryOf d)
-  unfolding linesOf fits
+  unfolding linesOf
   laidOut-typed n e p h = go (eqb (byteAt d 0) 32) h
     where
       go : (t : Bool) → laidOut n e p (layout (cond t spareDsd dsd)) d ≡ accepted → Typed (entryOf d)
       go true h =
           let r = laidOut-fits plain n e (layout spareDsd) d p h in
-          spare-typed (λ k l. eqb→eq (getD d k 0) 32 (rw (spare-class k l) at (r .1 k (omega (arith, spare-length))))) (omega (arith, r .0, spare-length))
+          spare-typed (spare-blank (r .1)) (omega (arith, r .0, spare-length))
       go false h =
           let r = laidOut-fits plain n e (layout dsd) d p h in
           named-typed (r .1 47 (omega (arith, dsd-length))) (omega (arith, r .0, dsd-length))
