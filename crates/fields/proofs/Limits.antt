@@ -1,0 +1,55 @@
+-- The limits of an angle, as the machine tests them. Assumes nothing.
+use mathlib.Core.Path.{_≡_, refl, sym, ap, _∙_}
+use mathlib.Core.Bool.{Bool, true, false, not}
+use Prim.Native.Nat.{ℕ, zero, suc, _-_, _^_, _≤_, _<_}
+use native.Mathlib.Omega.{arith}
+use borrow.Author.Tests.{lt-ltb, le-leb, lt-leb, ltb-true, ltb-false}
+use lib.Dec.{leb, ltb}
+use lib.IntN.{ℤ, pos, negsuc, negℤ, _-ℤ_}
+use lib.Signed.{mag, leZ, ltZ}
+use mir.Syntax.{w64}
+use mir.Val.{toZ, SFits}
+use mir.Facts.{toZ-pos}
+use Rattle.layout.specs.Fields.{inLimits}
+
+-- at most is not above
+leb-not : (a b : ℕ) → leb a b ≡ not (ltb b a)
+leb-not a b = go (ltb b a) refl
+  where
+    go : (t : Bool) → ltb b a ≡ t → leb a b ≡ not t
+    go true e = lt-leb a b (ltb-true b a e)
+    go false e = le-leb a b (ltb-false b a e)
+
+leZ-not : (a b : ℤ) → leZ a b ≡ not (ltZ b a)
+leZ-not (pos a) (pos b) = leb-not a b
+leZ-not (pos a) (negsuc b) = refl
+leZ-not (negsuc a) (pos b) = refl
+leZ-not (negsuc a) (negsuc b) = leb-not b a
+
+module _ (m : ℕ) (v : ℤ) where
+  pub too-low : ltZ v (negℤ (pos m)) ≡ true → false ≡ inLimits m v
+  unfolding inLimits
+  too-low e = sym (rw (leZ-not (negℤ (pos m)) v, e))
+
+  pub high-enough : ltZ v (negℤ (pos m)) ≡ false → leZ v (pos m) ≡ inLimits m v
+  unfolding inLimits
+  high-enough e = sym (rw (leZ-not (negℤ (pos m)) v, e))
+
+-- what a test that came out u says of the angle y
+pub tested : (m : ℕ) {x y : ℤ} {t u : Bool} → x ≡ y → t ≡ inLimits m x → t ≡ u → inLimits m y ≡ u
+tested m e h k = ap (inLimits m) (sym e) ∙ sym h ∙ k
+
+-- the machine's -m
+negative : (m : ℕ) → pos 0 -ℤ pos m ≡ negℤ (pos m)
+negative zero = refl
+negative (suc m) = rw (lt-ltb 0 (suc m) (omega arith)) (ap negsuc (omega arith))
+
+pub minus : (m : ℕ) → m < 2 ^ 32 → pos 0 -ℤ toZ w64 m ≡ negℤ (pos m)
+minus m h = ap (λ (z : ℤ). pos 0 -ℤ z) (toZ-pos w64 {n = m} (omega arith)) ∙ negative m
+
+neg-mag : (m : ℕ) → mag (negℤ (pos m)) ≤ m
+neg-mag zero = omega arith
+neg-mag (suc m) = omega arith
+
+pub minus-fits : (m : ℕ) → m < 2 ^ 32 → SFits w64 (pos 0 -ℤ toZ w64 m)
+minus-fits m h = rw (minus m h) (record { sfits = omega (arith, neg-mag m) })

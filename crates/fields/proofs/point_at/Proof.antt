@@ -1,0 +1,120 @@
+-- `fields::point_at` meets its contract: 21 of latitude, then of longitude, then the point. Assumes nothing.
+use mathlib.Core.Path.{ap, _∙_}
+use borrow.Author.Needs.{needs, sfits-of}
+use borrow.Author.Tests.{not-true, not-false}
+use mir.Facts.{toZ-ofZ}
+use Rattle.layout.specs.Fields.{degrees, metres}
+use Rattle.layout.specs.Answers.{pointAnswerIs}
+use Rattle.fields.proofs.Limits.{tested}
+use Rattle.fields.proofs.Points.{latitude-out, longitude-out, found}
+use Rattle.fields.proofs.point_at.Statement.{statement}
+use Rattle.fields.proofs.point_at.Tie as tie
+
+signed-requires : tie.Need-signed-requires
+signed-requires c κs = search needs
+
+in-limits-requires : tie.Need-in-limits-requires
+in-limits-requires c κs = search needs
+
+refused-point-requires : tie.Need-refused-point-requires
+refused-point-requires c κs = search needs
+
+returns : tie.Need-returns
+returns c =
+    let l = c .before .before in
+    let n = l .before in
+    let s = n .before .before in
+    let a = s .args in
+    let p = s .pre in
+    let north = toZ-ofZ (sfits-of (n .signed .ok)) ∙ n .signed .ensures .0 in
+    c .refused-point .ensures
+    ∙ latitude-out (a .bytes .now) (a .entry) (a .latitude) (a .longitude) (a .altitude) (p .0) (p .1) (p .2) (tested 90000000 north (l .in-limits .ensures) (not-true _ (c .before .if1 .taken)))
+
+signed-requires-2 : tie.Need-signed-requires-2
+signed-requires-2 c κs = search needs
+
+in-limits-requires-2 : tie.Need-in-limits-requires-2
+in-limits-requires-2 c κs = search needs
+
+refused-point-requires-2 : tie.Need-refused-point-requires-2
+refused-point-requires-2 c κs = search needs
+
+returns-2 : tie.Need-returns-2
+returns-2 c =
+    let m = c .before .before in
+    let e = m .before in
+    let l = e .before .before in
+    let n = l .before in
+    let s = n .before .before in
+    let a = s .args in
+    let p = s .pre in
+    let north = toZ-ofZ (sfits-of (n .signed .ok)) ∙ n .signed .ensures .0 in
+    let east = toZ-ofZ (sfits-of (e .signed2 .ok)) ∙ e .signed2 .ensures .0 in
+    c .refused-point2 .ensures
+    ∙ longitude-out (a .bytes .now) (a .entry) (a .latitude) (a .longitude) (a .altitude) (p .0) (p .1) (p .2) (tested 90000000 north (l .in-limits .ensures) (not-false _ (e .before .if1 .left))) (tested 180000000 east (m .in-limits2 .ensures) (not-true _ (c .before .if2 .taken)))
+
+unsigned-requires : tie.Need-unsigned-requires
+unsigned-requires c κs = search needs
+
+cast-degrees : tie.Need-cast-degrees
+cast-degrees c = search needs
+
+degrees-requires : tie.Need-degrees-requires
+degrees-requires c κs = search needs
+
+cast-degrees-2 : tie.Need-cast-degrees-2
+cast-degrees-2 c = search needs
+
+degrees-requires-2 : tie.Need-degrees-requires-2
+degrees-requires-2 c κs = search needs
+
+cast-metres : tie.Need-cast-metres
+cast-metres c = search needs
+
+metres-requires : tie.Need-metres-requires
+metres-requires c κs = search needs
+
+returns-3 : tie.Need-returns-3
+unfolding pointAnswerIs
+returns-3 c =
+    let d = c .before .before in
+    let u = d .before in
+    let m = u .before .before in
+    let e = m .before in
+    let l = e .before .before in
+    let n = l .before in
+    let s = n .before .before in
+    let a = s .args in
+    let p = s .pre in
+    let north = toZ-ofZ (sfits-of (n .signed .ok)) ∙ n .signed .ensures .0 in
+    let east = toZ-ofZ (sfits-of (e .signed2 .ok)) ∙ e .signed2 .ensures .0 in
+    found (a .bytes .now) (a .entry) (a .latitude) (a .longitude) (a .altitude) (p .0) (p .1) (p .2)
+    (tested 90000000 north (l .in-limits .ensures) (not-false _ (e .before .if1 .left)))
+    (tested 180000000 east (m .in-limits2 .ensures) (not-false _ (u .before .if2 .left)))
+    _
+    _
+    _
+    (d .degrees .ensures ∙ ap degrees (toZ-ofZ (cast-degrees u) ∙ north))
+    (c .before .degrees2 .ensures ∙ ap degrees (toZ-ofZ (cast-degrees-2 d) ∙ east))
+    (c .metres .ensures ∙ ap metres (u .unsigned .ensures .0))
+
+pub point-at-spec : {M : Type 1} → statement M
+point-at-spec =
+    tie.close
+    (tie.spec
+    signed-requires
+    in-limits-requires
+    refused-point-requires
+    returns
+    signed-requires-2
+    in-limits-requires-2
+    refused-point-requires-2
+    returns-2
+    unsigned-requires
+    cast-degrees
+    degrees-requires
+    cast-degrees-2
+    degrees-requires-2
+    cast-metres
+    metres-requires
+    returns-3)

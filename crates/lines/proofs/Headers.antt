@@ -1,0 +1,60 @@
+-- What the first bad place of a whole header says: the answer of its layout, for the main header and for a DSD.
+-- Assumes nothing.
+use Prim.Native.Nat.{ℕ, suc, _+_, _≤_}
+use mathlib.Core.Bool.{Bool, true, false, cond}
+use mathlib.Core.List.{List, [], _∷_}
+use mathlib.Core.Path.{_≡_, refl, _∙_}
+use native.Mathlib.Omega.{arith}
+use native.Mathlib.Nat.{add-zero, add-suc, suc-add}
+use lib.Dec.{eqb}
+use lib.ListN.{length, drop, getD}
+use lib.Seq.{drop-cons, getD-take, getD-drop}
+use borrow.Author.Tests.{eq-eqb, ne-eqb}
+use Rattle.layout.specs.Bytes.{part, byteAt}
+use Rattle.layout.specs.Text.{Class, Line, fits, layout}
+use Rattle.layout.specs.Lines.{dsd, spareDsd}
+use Rattle.layout.specs.Rules.{linesOf}
+use Rattle.layout.specs.Answer.{need, _orElse_}
+use Rattle.layout.specs.Search.{laidOut}
+use Rattle.layout.proofs.Laws.{laidOut-take}
+use Rattle.lines.specs.Table.{firstBad}
+
+answer : (n e : ℕ) (ks : List Class) (b : List ℕ) (p : ℕ) → p + length ks ≤ length b
+    → laidOut n e p ks (drop p b) ≡ need (eqb (firstBad ks b p) (p + length ks)) n (firstBad ks b p) e
+unfolding laidOut firstBad byteAt
+answer n e [] b p h = rw (add-zero p, eq-eqb p p refl)
+answer n e (k ∷ ks) b p h =
+    rw (drop-cons b p 0 (omega arith), answer n e ks b (suc p) (omega arith), add-suc p (length ks), suc-add p (length ks))
+    (go (fits k (getD b p 0)) refl)
+  where
+    go : (t : Bool) → fits k (getD b p 0) ≡ t
+        → (need t n p e orElse need (eqb (firstBad ks b (suc p)) (suc (p + length ks))) n (firstBad ks b (suc p)) e)
+        ≡ need (eqb (cond t (firstBad ks b (suc p)) p) (suc (p + length ks))) n (cond t (firstBad ks b (suc p)) p) e
+    go true q = refl
+    go false q = rw (ne-eqb p (suc (p + length ks)) (λ m. omega arith))
+
+-- `ks` is the layout `js` in another form, and m the place behind it
+pub header-answer : (n e : ℕ) (ks js : List Class) (b : List ℕ) (p r m : ℕ) → ks ≡ js → r ≡ firstBad ks b p → p + length js ≡ m → m ≤ length b
+    → laidOut n e p js (drop p b) ≡ need (eqb r m) n r e
+header-answer n e ks js b p r m same found q h = rw (found, same, ← q) (answer n e js b p (omega arith))
+
+-- ---- a DSD
+
+module _ (b : List ℕ) (at : ℕ) where
+  first-byte : byteAt (part b at 280) 0 ≡ getD b at 0
+  unfolding part byteAt
+  first-byte = getD-take 280 (drop at b) 0 0 (omega arith) ∙ getD-drop at b 0 0 ∙ rw (add-zero at)
+
+  pub spare-lines : getD b at 0 ≡ 32 → linesOf (part b at 280) ≡ spareDsd
+  unfolding linesOf
+  spare-lines h = rw (first-byte, h)
+
+  pub dsd-lines : (getD b at 0 ≡ 32 → ⊥) → linesOf (part b at 280) ≡ dsd
+  unfolding linesOf
+  dsd-lines h = rw (first-byte, ne-eqb (getD b at 0) 32 h)
+
+  pub dsd-answer : (ls : List Line) (ks : List Class) (r : ℕ) → linesOf (part b at 280) ≡ ls → ks ≡ layout ls → length ks ≡ 280 → r ≡ firstBad ks b at → at + 280 ≤ length b
+      → (e : ℕ) → laidOut 8 e at (layout (linesOf (part b at 280))) (part b at 280) ≡ need (eqb r (at + 280)) 8 r e
+  unfolding part
+  dsd-answer ls ks r which same long found h e =
+      rw (which, ← same) (laidOut-take 8 e ks (drop at b) at 280 (omega arith) ∙ header-answer 8 e ks ks b at r (at + 280) refl found (omega arith) h)

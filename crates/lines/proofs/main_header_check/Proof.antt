@@ -1,0 +1,46 @@
+-- `lines::main_header_check` meets its contract: the rule of the main header's table is computed once, over the whole table.
+-- Assumes nothing.
+use mathlib.Core.Path.{refl}
+use borrow.Author.Needs.{needs}
+use Rattle.layout.specs.Bytes.{part}
+use Rattle.layout.specs.Text.{layout, lineClasses, valueClasses}
+use Rattle.layout.specs.Lines.{mph}
+use Rattle.lines.specs.Table.{tableLaid, linesLaid, lineLaid, namedLaid, valueLaid, lineOf, tableFits, linesFit, lineFits, namedFits, widthFits}
+use Rattle.lines.proofs.Headers.{header-answer}
+use Rattle.lines.proofs.main_header_check.Statement.{statement}
+use Rattle.lines.proofs.main_header_check.Tie as tie
+
+slice-aggregate-lines-check : tie.Need-slice-aggregate-lines-check
+slice-aggregate-lines-check c = search needs
+
+slice-aggregate-lines-check-2 : tie.Need-slice-aggregate-lines-check-2
+slice-aggregate-lines-check-2 c = search needs
+
+slice-aggregate-lines-check-3 : tie.Need-slice-aggregate-lines-check-3
+slice-aggregate-lines-check-3 c = search needs
+
+slice-aggregate-lines-check-4 : tie.Need-slice-aggregate-lines-check-4
+slice-aggregate-lines-check-4 c = search needs
+
+slice-aggregate-lines-check-5 : tie.Need-slice-aggregate-lines-check-5
+slice-aggregate-lines-check-5 c = search needs
+
+lines-check-requires : tie.Need-lines-check-requires
+unfolding tableFits linesFit lineFits namedFits widthFits lineOf
+lines-check-requires c κs = (tt, c .before .before .before .before .before .before .pre)
+
+returns : tie.Need-returns
+unfolding tableLaid linesLaid lineLaid namedLaid valueLaid lineOf layout mph lineClasses valueClasses part
+returns c = header-answer 3 128 _ (layout mph) _ 0 _ 1247 refl (c .lines-check .ensures) refl (c .before .before .before .before .before .before .before .pre)
+
+pub main-header-check-spec : {M : Type 1} → statement M
+main-header-check-spec =
+    tie.close
+    (tie.spec
+    slice-aggregate-lines-check
+    slice-aggregate-lines-check-2
+    slice-aggregate-lines-check-3
+    slice-aggregate-lines-check-4
+    slice-aggregate-lines-check-5
+    lines-check-requires
+    returns)

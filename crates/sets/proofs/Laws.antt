@@ -1,0 +1,217 @@
+-- The tests of sets by their numbers, the searches step by step, and the rules by the arrays against the rules over a directory that they hold.
+-- Assumes nothing.
+use Prim.Native.Nat.{ℕ, _+_, _-_, _≤_, _<_}
+use mathlib.Core.Bool.{Bool, true, false, cond, _&&_, not, and-true, and-false}
+use mathlib.Core.List.{List}
+use mathlib.Core.Logic.{_⊎_, inl, inr}
+use mathlib.Core.Path.{_≡_, refl, sym, ap, _∙_}
+use native.Mathlib.Omega.{arith}
+use native.Mathlib.Nat.{sub-zero}
+use lib.Dec.{T, leb, ltb, eqb}
+use lib.ListN.{length, getD}
+use borrow.Author.Tests.{lt-ltb, le-ltb, le-leb, lt-leb, eq-eqb, ne-eqb, ltb-true, ltb-false, not-true, not-false}
+use Rattle.layout.specs.Answer.{Answer, accepted, refused, none, need}
+use Rattle.layout.specs.Search.{first, some}
+use Rattle.layout.specs.Entries.{Entry, at, holds, shares}
+use Rattle.layout.specs.Rules.{setInside, rule12At, sharesAt, rule13At, holdsAt, rule14At}
+use Rattle.layout.proofs.Laws.{lt-or-le, need-accepts, some-T, some-same, some-step, first-same, first-step, first-skip}
+use Rattle.sets.specs.Sets.{isInside, overlaps, overlapsAt, covers, coversAt, isCovered, restOf, rule12By, rule13By, rule14By, Run, Held, Outside, Overlapping, Uncovered}
+
+-- ---- one set, and two, by their numbers
+
+same : (x y : Bool) → (x ≡ true → y ≡ true) → (x ≡ false → y ≡ false) → x ≡ y
+same true y t f = sym (t refl)
+same false y t f = sym (f refl)
+
+ltb-same : (a b c d : ℕ) → (a < b → c < d) → (b ≤ a → d ≤ c) → ltb a b ≡ ltb c d
+ltb-same a b c d t f = same (ltb a b) (ltb c d) (λ e. lt-ltb c d (t (ltb-true a b e))) (λ e. le-ltb c d (f (ltb-false a b e)))
+
+ltb-not : (a b c d : ℕ) → (a < b → d < c) → (b ≤ a → c ≤ d) → ltb a b ≡ not (leb c d)
+ltb-not a b c d t f = same (ltb a b) (not (leb c d)) (λ e. ap not (lt-leb c d (t (ltb-true a b e)))) (λ e. ap not (le-leb c d (f (ltb-false a b e))))
+
+module _ (offset size h n : ℕ) where
+  pub inside-empty : size ≡ 0 → false ≡ not (isInside h n offset size)
+  unfolding isInside
+  inside-empty e = rw (le-ltb 0 size (omega arith))
+
+  module _ (filled : size ≡ 0 → ⊥) where
+    pub outside-headers : offset < h → true ≡ not (isInside h n offset size)
+    unfolding isInside
+    outside-headers l = rw (lt-ltb 0 size (omega arith), lt-leb h offset l)
+
+    pub outside-size : h ≤ offset → n < size → true ≡ not (isInside h n offset size)
+    unfolding isInside
+    outside-size l u = rw (lt-ltb 0 size (omega arith), le-leb h offset l, lt-leb (offset + size) n (omega arith))
+
+    pub outside-end : h ≤ offset → size ≤ n → ltb (n - size) offset ≡ not (isInside h n offset size)
+    unfolding isInside
+    outside-end l u = rw (lt-ltb 0 size (omega arith), le-leb h offset l) (ltb-not (n - size) offset (offset + size) n (λ v. omega arith) (λ v. omega arith))
+
+module _ (a s b t : ℕ) where
+  pub no-first : s ≡ 0 → false ≡ overlaps a s b t
+  unfolding overlaps
+  no-first e = rw (le-ltb 0 s (omega arith))
+
+  pub no-second : t ≡ 0 → false ≡ overlaps a s b t
+  unfolding overlaps
+  no-second e = rw (le-ltb 0 t (omega arith), and-false)
+
+  module _ (hs : s ≡ 0 → ⊥) (ht : t ≡ 0 → ⊥) where
+    pub from-below : a < b → ltb (b - a) s ≡ overlaps a s b t
+    unfolding overlaps
+    from-below h =
+        rw (lt-ltb 0 s (omega arith), lt-ltb 0 t (omega arith), lt-ltb a (b + t) (omega arith))
+        (ltb-same (b - a) s b (a + s) (λ g. omega arith) (λ g. omega arith))
+
+    pub from-above : b ≤ a → ltb (a - b) t ≡ overlaps a s b t
+    unfolding overlaps
+    from-above h =
+        rw (lt-ltb 0 s (omega arith), lt-ltb 0 t (omega arith), lt-ltb b (a + s) (omega arith), and-true)
+        (ltb-same (a - b) t a (b + t) (λ g. omega arith) (λ g. omega arith))
+
+module _ (offset size p : ℕ) where
+  pub rest-before : p < offset → 0 ≡ restOf offset size p
+  unfolding restOf
+  rest-before h = rw (lt-leb offset p h)
+
+  pub rest-behind : offset ≤ p → size ≤ p - offset → 0 ≡ restOf offset size p
+  unfolding restOf
+  rest-behind h l = rw (le-leb offset p h) (omega arith)
+
+  pub rest-inside : offset ≤ p → p - offset < size → size - (p - offset) ≡ restOf offset size p
+  unfolding restOf
+  rest-inside h l = rw (le-leb offset p h) (omega arith)
+
+  -- each byte of the rest is in the set; without a rest p is not in it
+  rest-covers : (k : ℕ) → p ≤ k → k < p + restOf offset size p → T (covers k offset size)
+  unfolding restOf covers
+  rest-covers k l u = go (lt-or-le p offset) u
+    where
+      go : (p < offset) ⊎ (offset ≤ p) → k < p + cond (leb offset p) (offset + size - p) 0 → T (ltb 0 size && (leb offset k && ltb k (offset + size)))
+      go (inl h) v = absurd (let w = rw (lt-leb offset p h) at v in omega arith)
+      go (inr h) v =
+          let w = rw (le-leb offset p h) at v in
+          rw (lt-ltb 0 size (omega arith), le-leb offset k (omega arith), lt-ltb k (offset + size) (omega arith)) tt
+
+  rest-none : restOf offset size p ≡ 0 → covers p offset size ≡ false
+  unfolding restOf covers
+  rest-none e = go (lt-or-le p offset) e
+    where
+      go : (p < offset) ⊎ (offset ≤ p) → cond (leb offset p) (offset + size - p) 0 ≡ 0 → (ltb 0 size && (leb offset p && ltb p (offset + size))) ≡ false
+      go (inl h) v = rw (lt-leb offset p h, and-false)
+      go (inr h) v = let w = rw (le-leb offset p h) at v in rw (le-ltb p (offset + size) (omega arith), and-false, and-false)
+
+-- ---- a search for a refusal, step by step: what is left of it from k on is the whole
+
+module _ (f : ℕ → Answer) (i n k : ℕ) (so : first f i (n - i) ≡ first f k (n - k)) where
+  pub first-hit : (m p e : ℕ) → k < n → f k ≡ refused m p e → first f i (n - i) ≡ need (eqb k n) m p e
+  first-hit m p e h q = so ∙ first-step f k n h ∙ rw (q, ne-eqb k n (λ z. omega arith))
+
+  pub first-miss : k < n → f k ≡ accepted → first f i (n - i) ≡ first f (k + 1) (n - (k + 1))
+  first-miss h q = so ∙ first-step f k n h ∙ rw q
+
+  pub first-none : (m p e : ℕ) → n ≤ k → first f i (n - i) ≡ need (eqb n n) m p e
+  unfolding first
+  first-none m p e h = let q : n - k ≡ 0 = omega arith in so ∙ rw (q, eq-eqb n n refl)
+
+-- the same for a search for a number that passes
+module _ (t : ℕ → Bool) (n k : ℕ) (so : some t 0 n ≡ some t k (n - k)) where
+  pub some-hit : k < n → t k ≡ true → some t 0 n ≡ true
+  some-hit h q = so ∙ some-step t k n h ∙ rw q
+
+  pub some-miss : k < n → t k ≡ false → some t 0 n ≡ some t (k + 1) (n - (k + 1))
+  some-miss h q = so ∙ some-step t k n h ∙ rw q
+
+  pub some-none : n ≤ k → some t 0 n ≡ false
+  unfolding some
+  some-none h = let q : n - k ≡ 0 = omega arith in so ∙ rw q
+
+-- ---- the rules over a directory that the arrays hold
+
+module _ (ds : List Entry) (offsets sizes : List ℕ) (held : Held ds offsets sizes) where
+  same12 : (h n i : ℕ) → i < length ds → rule12At ds h n i ≡ rule12By offsets sizes h n i
+  unfolding rule12At rule12By setInside isInside
+  same12 h n i l = rw (held .filled i l, held .starts i l, held .extents i l)
+
+  shares-same : (i j : ℕ) → i < length ds → j < length ds → sharesAt ds i j ≡ overlapsAt offsets sizes i j
+  unfolding sharesAt shares overlapsAt overlaps
+  shares-same i j l m = rw (held .filled i l, held .filled j m, held .starts i l, held .extents i l, held .starts j m, held .extents j m)
+
+  same13 : (i : ℕ) → i < length ds → rule13At ds i ≡ rule13By offsets sizes i
+  unfolding rule13At rule13By
+  same13 i l = rw (held .starts i l, some-same (sharesAt ds i) (overlapsAt offsets sizes i) 0 i (λ j v u. shares-same i j l (omega arith)))
+
+  holds-same : (p i : ℕ) → i < length ds → holdsAt ds p i ≡ coversAt offsets sizes p i
+  unfolding holdsAt holds coversAt covers
+  holds-same p i l = rw (held .filled i l, held .starts i l, held .extents i l)
+
+  same14 : (p : ℕ) → rule14At ds p ≡ rule14By offsets sizes (length ds) p
+  unfolding rule14At rule14By isCovered
+  same14 p = rw (some-same (holdsAt ds p) (coversAt offsets sizes p) 0 (length ds) (λ i v u. holds-same p i (omega arith)))
+
+module _ (offsets sizes : List ℕ) (entries r : ℕ) where
+  pub outside : (h n : ℕ) → r ≤ entries → first (rule12By offsets sizes h n) 0 (entries - 0) ≡ need (eqb r entries) 12 (getD offsets r 0) r → Outside offsets sizes entries h n r
+  outside h n l e = record {
+    within = l;
+    answer = λ ds held q. first-same (rule12At ds h n) (rule12By offsets sizes h n) 0 entries (λ k v u. same12 ds offsets sizes held h n k (omega arith)) ∙ rw sub-zero at e;
+  }
+
+  pub overlapping : r ≤ entries → first (rule13By offsets sizes) 0 (entries - 0) ≡ need (eqb r entries) 13 (getD offsets r 0) r → Overlapping offsets sizes entries r
+  overlapping l e = record {
+    within = l;
+    answer = λ ds held q. first-same (rule13At ds) (rule13By offsets sizes) 0 entries (λ k v u. same13 ds offsets sizes held k (omega arith)) ∙ rw sub-zero at e;
+  }
+
+  pub uncovered : (h n : ℕ) → r ≤ n → first (rule14By offsets sizes entries) h (n - h) ≡ need (eqb r n) 14 r none → Uncovered offsets sizes entries h n r
+  uncovered h n l e = record {
+    within = l;
+    answer = λ ds held q. first-same (rule14At ds) (rule14By offsets sizes entries) h (n - h) (λ k v u. same14 ds offsets sizes held k ∙ rw q) ∙ e;
+  }
+
+-- ---- each rule at one entry, by its test
+
+module _ (offsets sizes : List ℕ) where
+  pub entry-outside : (h n i : ℕ) → not (isInside h n (getD offsets i 0) (getD sizes i 0)) ≡ true → rule12By offsets sizes h n i ≡ refused 12 (getD offsets i 0) i
+  unfolding rule12By
+  entry-outside h n i e = rw (not-true (isInside h n (getD offsets i 0) (getD sizes i 0)) e)
+
+  pub entry-inside : (h n i : ℕ) → not (isInside h n (getD offsets i 0) (getD sizes i 0)) ≡ false → rule12By offsets sizes h n i ≡ accepted
+  unfolding rule12By
+  entry-inside h n i e = rw (not-false (isInside h n (getD offsets i 0) (getD sizes i 0)) e)
+
+  pub overlaps-lower : (i : ℕ) → some (overlapsAt offsets sizes i) 0 i ≡ true → rule13By offsets sizes i ≡ refused 13 (getD offsets i 0) i
+  unfolding rule13By
+  overlaps-lower i e = rw e
+
+  pub overlaps-none : (i : ℕ) → some (overlapsAt offsets sizes i) 0 i ≡ false → rule13By offsets sizes i ≡ accepted
+  unfolding rule13By
+  overlaps-none i e = rw e
+
+  -- the rest of a set from p on: each of its bytes is in a set
+  pub run-hit : (n p i : ℕ) → i < n → 0 < restOf (getD offsets i 0) (getD sizes i 0) p → Run offsets sizes n p (restOf (getD offsets i 0) (getD sizes i 0) p)
+  unfolding isCovered coversAt
+  run-hit n p i h l = record {
+    each = λ k v u. some-T (coversAt offsets sizes k) n .1 (i, h, rest-covers (getD offsets i 0) (getD sizes i 0) p k v u);
+    stuck = λ q. absurd (omega arith);
+  }
+
+  pub run-none : (n p : ℕ) → some (coversAt offsets sizes p) 0 n ≡ false → Run offsets sizes n p 0
+  unfolding isCovered
+  run-none n p e = record { each = λ k v u. absurd (omega arith); stuck = λ q. e }
+
+  pub not-covered : (p i : ℕ) → restOf (getD offsets i 0) (getD sizes i 0) p ≡ 0 → coversAt offsets sizes p i ≡ false
+  unfolding coversAt
+  not-covered p i e = rest-none (getD offsets i 0) (getD sizes i 0) p e
+
+  pub byte-uncovered : (n p : ℕ) → isCovered offsets sizes n p ≡ false → rule14By offsets sizes n p ≡ refused 14 p none
+  unfolding rule14By
+  byte-uncovered n p e = rw e
+
+  byte-covered : (n p : ℕ) → T (isCovered offsets sizes n p) → rule14By offsets sizes n p ≡ accepted
+  unfolding rule14By
+  byte-covered n p t = need-accepts (isCovered offsets sizes n p) 14 p none .1 t
+
+  -- what is left of the search for a byte in no set, behind a run of bytes in sets or a part of it
+  pub run-jump : (entries h n p r : ℕ) → first (rule14By offsets sizes entries) h (n - h) ≡ first (rule14By offsets sizes entries) p (n - p) → Run offsets sizes entries p r
+      → (j : ℕ) → p ≤ j → j ≤ n → j ≤ p + r → first (rule14By offsets sizes entries) h (n - h) ≡ first (rule14By offsets sizes entries) j (n - j)
+  run-jump entries h n p r so run j l u v = so ∙ first-skip (rule14By offsets sizes entries) p j n l u (λ k x y. byte-covered entries k (run .each k x (omega arith)))

@@ -1,0 +1,6 @@
+pub mod Tests
+pub mod Parts
+pub mod Numbers
+pub mod LineEnds
+pub mod BadLines
+pub mod Laws

@@ -1,0 +1,62 @@
+-- `text::first_not_in_keyword` meets its contract: what is left of the search from `keyword_to` on is the whole search.
+-- Assumes nothing.
+use Prim.Native.Nat.{_≤_, _-_}
+use mathlib.Core.Path.{_≡_}
+use native.Mathlib.Omega.{arith}
+use borrow.Author.Needs.{needs}
+use borrow.Author.Tests.{not-true, not-false}
+use Rattle.layout.specs.Search.{find}
+use Rattle.text.specs.LineEnds.{inKeyword, fails}
+use Rattle.layout.proofs.Laws.{find-hit, find-next, find-none}
+use Rattle.text.proofs.Tests.{passing, failing}
+use Rattle.text.proofs.first_not_in_keyword.Statement.{statement}
+use Rattle.text.proofs.first_not_in_keyword.Tie as tie
+
+abbrev Inv-loop : tie.InvT-loop
+Inv-loop p from to keyword-to₀ keyword-to = (keyword-to ≤ to) × (find (fails inKeyword p) from (to - from) ≡ find (fails inKeyword p) keyword-to (to - keyword-to))
+
+abbrev μ-loop : tie.MeasureT-loop
+μ-loop p from to keyword-to₀ keyword-to = to - keyword-to
+
+loop-holds : tie.Need-loop-holds Inv-loop μ-loop
+loop-holds c = search needs
+
+shared-slice-read-in-keyword : tie.Need-shared-slice-read-in-keyword Inv-loop μ-loop
+shared-slice-read-in-keyword c = omega arith
+
+in-keyword-requires : tie.Need-in-keyword-requires Inv-loop μ-loop
+in-keyword-requires c κs = search needs
+
+returns : tie.Need-returns Inv-loop μ-loop
+returns c =
+    find-hit _ _ _ _ (c .before .before .before .before .loop .inv .1) (omega arith) (failing _ _ inKeyword _ (c .before .in-keyword .ensures) (not-true _ (c .if1 .taken)))
+
+add-keyword-to : tie.Need-add-keyword-to Inv-loop μ-loop
+add-keyword-to c = omega arith
+
+loop-less : tie.Need-loop-less Inv-loop μ-loop
+loop-less c = omega arith
+
+loop-again : tie.Need-loop-again Inv-loop μ-loop
+loop-again c = (
+  omega arith,
+  find-next _ _ _ _ (c .before .before .before .before .loop .inv .1) (omega arith) (passing _ _ inKeyword _ (c .before .in-keyword .ensures) (not-false _ (c .if1 .left))),
+)
+
+returns-2 : tie.Need-returns-2 Inv-loop μ-loop
+returns-2 c = find-none _ _ _ _ (c .before .loop .inv .1) (omega arith) (omega arith)
+
+pub first-not-in-keyword-spec : {M : Type 1} → statement M
+first-not-in-keyword-spec =
+    tie.close
+    (tie.spec
+    Inv-loop
+    μ-loop
+    loop-holds
+    shared-slice-read-in-keyword
+    in-keyword-requires
+    returns
+    add-keyword-to
+    loop-less
+    loop-again
+    returns-2)

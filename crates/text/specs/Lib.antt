@@ -1,0 +1,3 @@
+pub mod Blanks
+pub mod Numbers
+pub mod LineEnds

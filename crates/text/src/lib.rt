@@ -1,0 +1,270 @@
+// Header text (document 01, "Header text"): blanks, decimal numbers and the lines of the SPH, read at a place of the lent bytes.
+ghost use mathlib.Core.Path.{_≡_};
+ghost use Prim.Native.Nat.{_+_, _*_, _-_, _<_, _≤_};
+ghost use lib.Dec.{eqb};
+ghost use lib.ListN.{length};
+ghost use Rattle.layout.specs.Answer.{need};
+ghost use Rattle.layout.specs.Bytes.{part};
+ghost use Rattle.layout.specs.Rules.{rule7At};
+ghost use Rattle.layout.specs.Search.{find, first};
+ghost use Rattle.layout.specs.Sph.{ended, blanks, unquoted, quoted, value, keyword, line};
+ghost use Rattle.layout.specs.Text.{plain, fits};
+ghost use Rattle.text.specs.Blanks.{notBlank};
+ghost use Rattle.text.specs.Numbers.{capped, withByte, numberIn, wholeIn};
+ghost use Rattle.text.specs.LineEnds.{inKeyword, fails, Ended};
+
+// The first place in `from..to` whose byte is not a blank, or `to`.
+pub fn first_not_blank(p: &[u8], from: usize, to: usize) -> usize
+    requires { ⌜ (from ≤ to) × (to ≤ length (now p)) ⌝ }
+    ensures { λ r. ⌜ r ≡ find (notBlank (now (p .entry))) from (to - from) ⌝ }
+{
+    let mut i = from;
+    while i < to {
+        if p[i] != 32 {
+            return i;
+        }
+        i += 1;
+    }
+    to
+}
+
+// A sign and a magnitude as they stand. The magnitude 2^63 stands for everything above 2^63 - 1.
+pub struct Number {
+    pub minus: bool,
+    pub magnitude: u64,
+}
+
+impl Number {
+    // The value; minus zero is zero.
+    pub fn whole(self) -> i64
+        requires { ⌜ self .magnitude < 9223372036854775808 ⌝ }
+        ensures { λ r. ⌜ r ≡ wholeIn self ⌝ }
+    {
+        let value = self.magnitude as i64;
+        if self.minus {
+            return -value;
+        }
+        value
+    }
+}
+
+// What a byte counts as a digit: a blank counts 0.
+fn digit_of(x: u8) -> u64
+    ensures { λ r. ⌜ (r ≡ x - 48) × (r < 256) ⌝ }
+{
+    if x < 48 { 0 } else { (x - 48) as u64 }
+}
+
+// One byte more behind a magnitude, which is held at 2^63. The point is passed over.
+fn with_byte(magnitude: u64, x: u8) -> u64
+    requires { ⌜ magnitude ≤ 9223372036854775808 ⌝ }
+    ensures { λ r. ⌜ r ≡ capped (withByte magnitude x) ⌝ }
+{
+    if x == 46 {
+        return magnitude;
+    }
+    if 922337203685477580 < magnitude {
+        return 9223372036854775808;
+    }
+    let next = magnitude * 10 + digit_of(x);
+    if next < 9223372036854775808 {
+        return next;
+    }
+    9223372036854775808
+}
+
+// The number that `width` bytes from `at` on are: a sign, and digits with or without a point.
+pub fn number_at(p: &[u8], at: usize, width: usize) -> Number
+    requires { ⌜ (1 ≤ width) × (at + width ≤ length (now p)) ⌝ }
+    ensures { λ r. ⌜ r ≡ numberIn (now (p .entry)) at width ⌝ }
+{
+    let end = at + width;
+    let mut magnitude: u64 = 0;
+    let mut digit = at + 1;
+    while digit < end {
+        magnitude = with_byte(magnitude, p[digit]);
+        digit += 1;
+    }
+    Number {
+        minus: p[at] == 45,
+        magnitude: magnitude,
+    }
+}
+
+// A byte of q or c: 32 to 126, never 34.
+fn is_plain(x: u8) -> bool
+    ensures { λ r. ⌜ r ≡ fits plain x ⌝ }
+{
+    if x < 32 {
+        return false;
+    }
+    if 126 < x {
+        return false;
+    }
+    x != 34
+}
+
+// A byte of a keyword behind its first.
+fn in_keyword(x: u8) -> bool
+    ensures { λ r. ⌜ r ≡ inKeyword x ⌝ }
+{
+    if x < 48 {
+        return false;
+    }
+    if x <= 57 {
+        return true;
+    }
+    if x < 65 {
+        return false;
+    }
+    if x <= 90 {
+        return true;
+    }
+    x == 95
+}
+
+// The first place in `from..to` whose byte is not of a q, or `to`.
+fn first_not_plain(p: &[u8], from: usize, to: usize) -> usize
+    requires { ⌜ (from ≤ to) × (to ≤ length (now p)) ⌝ }
+    ensures { λ r. ⌜ r ≡ find (fails (fits plain) (now (p .entry))) from (to - from) ⌝ }
+{
+    let mut plain_to = from;
+    while plain_to < to {
+        if !is_plain(p[plain_to]) {
+            return plain_to;
+        }
+        plain_to += 1;
+    }
+    to
+}
+
+// The first place in `from..to` whose byte is not of a keyword, or `to`.
+fn first_not_in_keyword(p: &[u8], from: usize, to: usize) -> usize
+    requires { ⌜ (from ≤ to) × (to ≤ length (now p)) ⌝ }
+    ensures { λ r. ⌜ r ≡ find (fails inKeyword (now (p .entry))) from (to - from) ⌝ }
+{
+    let mut keyword_to = from;
+    while keyword_to < to {
+        if !in_keyword(p[keyword_to]) {
+            return keyword_to;
+        }
+        keyword_to += 1;
+    }
+    to
+}
+
+// The tests of what stands in `at..to`, the rest of the line that begins at `start`: each answers the place behind the line's byte 10, or `start`.
+
+// Only byte 10 follows.
+fn last_end(p: &[u8], start: usize, at: usize, to: usize) -> usize
+    requires { ⌜ (start ≤ at) × (at ≤ to) × (to ≤ length (now p)) ⌝ }
+    ensures { λ r. ⌜ Ended ended (now (p .entry)) start at to r ⌝ }
+{
+    if to <= at {
+        return start;
+    }
+    if p[at] != 10 {
+        return start;
+    }
+    at + 1
+}
+
+// Blanks, and byte 10.
+fn blanks_end(p: &[u8], start: usize, at: usize, to: usize) -> usize
+    requires { ⌜ (start ≤ at) × (at ≤ to) × (to ≤ length (now p)) ⌝ }
+    ensures { λ r. ⌜ Ended blanks (now (p .entry)) start at to r ⌝ }
+{
+    let end = first_not_blank(p, at, to);
+    last_end(p, start, end, to)
+}
+
+// Bytes 32 to 126 without 34, and byte 10.
+fn unquoted_end(p: &[u8], start: usize, at: usize, to: usize) -> usize
+    requires { ⌜ (start ≤ at) × (at ≤ to) × (to ≤ length (now p)) ⌝ }
+    ensures { λ r. ⌜ Ended unquoted (now (p .entry)) start at to r ⌝ }
+{
+    let end = first_not_plain(p, at, to);
+    last_end(p, start, end, to)
+}
+
+// The rest of a q of any length, and byte 10.
+fn quoted_end(p: &[u8], start: usize, at: usize, to: usize) -> usize
+    requires { ⌜ (start ≤ at) × (at ≤ to) × (to ≤ length (now p)) ⌝ }
+    ensures { λ r. ⌜ Ended quoted (now (p .entry)) start at to r ⌝ }
+{
+    let quote = first_not_plain(p, at, to);
+    if to <= quote {
+        return start;
+    }
+    if p[quote] != 34 {
+        return start;
+    }
+    last_end(p, start, quote + 1, to)
+}
+
+// A value, and byte 10.
+fn value_end(p: &[u8], start: usize, at: usize, to: usize) -> usize
+    requires { ⌜ (start ≤ at) × (at ≤ to) × (to ≤ length (now p)) ⌝ }
+    ensures { λ r. ⌜ Ended value (now (p .entry)) start at to r ⌝ }
+{
+    if to <= at {
+        return start;
+    }
+    let x = p[at];
+    if x == 34 {
+        return quoted_end(p, start, at + 1, to);
+    }
+    if !is_plain(x) {
+        return start;
+    }
+    unquoted_end(p, start, at + 1, to)
+}
+
+// The rest of a keyword, `=`, a value, and byte 10.
+fn keyword_end(p: &[u8], start: usize, at: usize, to: usize) -> usize
+    requires { ⌜ (start ≤ at) × (at ≤ to) × (to ≤ length (now p)) ⌝ }
+    ensures { λ r. ⌜ Ended keyword (now (p .entry)) start at to r ⌝ }
+{
+    let equals = first_not_in_keyword(p, at, to);
+    if to <= equals {
+        return start;
+    }
+    if p[equals] != 61 {
+        return start;
+    }
+    value_end(p, start, equals + 1, to)
+}
+
+// The place behind the byte 10 of the line that begins at `from`, if it is good and ends before `to`; else `from`.
+pub fn line_end(p: &[u8], from: usize, to: usize) -> usize
+    requires { ⌜ (from < to) × (to ≤ length (now p)) ⌝ }
+    ensures { λ r. ⌜ Ended line (now (p .entry)) from from to r ⌝ }
+{
+    let x = p[from];
+    if x == 32 {
+        return blanks_end(p, from, from + 1, to);
+    }
+    if x < 65 {
+        return from;
+    }
+    if 90 < x {
+        return from;
+    }
+    keyword_end(p, from, from + 1, to)
+}
+
+// The first byte of the first bad or unended line of the SPH before its DSDs, which begin at `to`; or `to` (rule 7).
+pub fn first_bad_line(p: &[u8], to: usize) -> usize
+    requires { ⌜ (1247 ≤ to) × (to ≤ length (now p)) ⌝ }
+    ensures { λ r. ⌜ first (rule7At (part (now (p .entry)) 1247 (to - 1247))) 0 (to - 1247) ≡ need (eqb r to) 7 r 128 ⌝ }
+{
+    let mut start = 1247;
+    while start < to {
+        let end = line_end(p, start, to);
+        if end == start {
+            return start;
+        }
+        start = end;
+    }
+    to
+}
