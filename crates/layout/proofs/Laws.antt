@@ -13,7 +13,7 @@ use lib.IntN.{ℤ, pos, negsuc}
 use lib.Signed.{leZ, ltZ, _≤ℤ_, _<ℤ_}
 use lib.ListN.{length, take, drop, getD}
 use lib.Seq.{drop-cons}
-use borrow.Author.Tests.{leb-true, leb-false}
+use borrow.Author.Tests.{leb-true, leb-false, eq-eqb, ne-eqb}
 use Rattle.layout.specs.Text.{Class, fits}
 use Rattle.layout.specs.Answer.{Answer, accepted, refused, _orElse_, need, where′, _⇒_}
 use Rattle.layout.specs.Search.{first, some, count, find, upto, laidOut}
@@ -354,3 +354,28 @@ module _ (t : ℕ → Bool) where
       go false h below =
           let q : i + suc n - suc (find t (suc i) n) ≡ suc i + n - suc (find t (suc i) n) = omega arith in
           rw (q, below (omega arith)) (omega arith)
+
+-- ---- what a search finds, by its number
+
+module _ (t : ℕ → Bool) where
+  -- some number passes exactly where one is found
+  pub some-found : (i n : ℕ) → some t i n ≡ not (eqb (find t i n) (i + n))
+  unfolding some find
+  some-found i zero = rw (add-zero i, eq-eqb i i refl)
+  some-found i (suc n) = go (t i) (some-found (suc i) n)
+    where
+      go : (u : Bool) → some t (suc i) n ≡ not (eqb (find t (suc i) n) (suc i + n)) → (u || some t (suc i) n) ≡ not (eqb (cond u i (find t (suc i) n)) (i + suc n))
+      go true below = rw (ne-eqb i (i + suc n) (λ e. omega arith))
+      go false below = let q : i + suc n ≡ suc i + n = omega arith in rw q below
+
+  -- the first refusal is at the number found
+  pub first-found : (f : ℕ → Answer) (k i n : ℕ) (place : ℕ → ℕ) → ((j : ℕ) → i ≤ j → j < i + n → f j ≡ need (not (t j)) k (place j) j)
+      → first f i n ≡ need (eqb (find t i n) (i + n)) k (place (find t i n)) (find t i n)
+  unfolding first find
+  first-found f k i zero place h = rw (add-zero i, eq-eqb i i refl)
+  first-found f k i (suc n) place h = rw (h i (omega arith) (omega arith)) (go (t i) (first-found f k (suc i) n place (λ j l u. h j (omega arith) (omega arith))))
+    where
+      go : (u : Bool) → first f (suc i) n ≡ need (eqb (find t (suc i) n) (suc i + n)) k (place (find t (suc i) n)) (find t (suc i) n)
+          → (need (not u) k (place i) i orElse first f (suc i) n) ≡ need (eqb (cond u i (find t (suc i) n)) (i + suc n)) k (place (cond u i (find t (suc i) n))) (cond u i (find t (suc i) n))
+      go true below = rw (ne-eqb i (i + suc n) (λ e. omega arith))
+      go false below = let q : i + suc n ≡ suc i + n = omega arith in rw q below
