@@ -299,7 +299,7 @@ later f i j l = omega arith
 
 -- ---- the tally, and the records that it counts
 
-kind-most : (f : Entry) → kindOf f ≤ 4
+pub kind-most : (f : Entry) → kindOf f ≤ 4
 unfolding kindOf
 kind-most f = go (called (f .name) (bytes "NADIR")) (called (f .name) (bytes "LIMB")) (called (f .name) (bytes "OCCULTATION")) (called (f .name) (bytes "MONITORING"))
   where

@@ -9,6 +9,7 @@ pub mod Faults
 pub mod Exactly
 pub mod Chain
 pub mod Sound
+pub mod Padded
 pub mod Whole
 pub mod Agree
 pub mod Maps
