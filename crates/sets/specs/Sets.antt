@@ -57,7 +57,7 @@ pub record Run (offsets sizes : List ℕ) (n p r : ℕ) : Type 0 where
   pub each : (k : ℕ) → p ≤ k → k < p + r → T (isCovered offsets sizes n k)
   pub stuck : r ≡ 0 → isCovered offsets sizes n p ≡ false
 
--- the arrays hold the offsets and sizes of a directory, in which only entries with a set have a size, as rule 10 demands
+-- the arrays hold the offsets and sizes of a directory in which only entries with a set have a size, as rules 8 and 10 demand
 pub record Held (ds : List Entry) (offsets sizes : List ℕ) : Type 0 where
   pub starts : (i : ℕ) → i < length ds → getD offsets i 0 ≡ start (at ds i)
   pub extents : (i : ℕ) → i < length ds → getD sizes i 0 ≡ extent (at ds i)

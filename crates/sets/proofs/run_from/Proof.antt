@@ -37,7 +37,6 @@ rest-from-requires c κs = search needs
 
 returns : tie.Need-returns Inv-loop μ-loop
 returns c =
-    let a = c .before .before .before .before .before .before .args in
     let e = c .before .rest-from .ensures in
     rw e (run-hit _ _ _ _ (c .before .before .before .before .before .loop .i) (omega arith) (omega arith))
 

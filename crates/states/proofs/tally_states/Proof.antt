@@ -1,0 +1,70 @@
+-- `states::tally_states` meets its contract: what is left of the tally from state `i` on is the whole tally.
+-- Assumes nothing.
+use Prim.Native.Nat.{_≤_, _-_}
+use mathlib.Core.Path.{_≡_, sym, ap, _∙_}
+use native.Mathlib.Omega.{arith}
+use Rattle.states.specs.States.{stateFrom, statesFrom, Capped}
+use Rattle.states.proofs.Sums.{zero-capped}
+use Rattle.states.proofs.Laws.{restFrom, rest-whole, after, noTally, after-all, after-step, after-end, with-capped}
+use Rattle.states.proofs.tally_states.Statement.{statement}
+use Rattle.states.proofs.tally_states.Tie as tie
+
+abbrev Inv-loop : tie.InvT-loop
+Inv-loop p start count t₀ i₀ t i =
+    (i ≤ count)
+    × (Capped (t .counts))
+    × (Capped (t .totals))
+    × (after noTally 0 (statesFrom p start count) ≡ after t i (restFrom p start count i))
+
+abbrev μ-loop : tie.MeasureT-loop
+μ-loop p start count t₀ i₀ t i = count - i
+
+loop-holds : tie.Need-loop-holds Inv-loop μ-loop
+loop-holds c = (omega arith, simp zero-capped, simp zero-capped, sym (ap (after noTally 0) (rest-whole _ _ _)))
+
+mul-at : tie.Need-mul-at Inv-loop μ-loop
+mul-at c = omega arith
+
+add-at : tie.Need-add-at Inv-loop μ-loop
+add-at c = omega arith
+
+at-requires : tie.Need-at-requires Inv-loop μ-loop
+at-requires c κs = omega arith
+
+with-requires : tie.Need-with-requires Inv-loop μ-loop
+with-requires c κs = (c .before .before .loop .inv .1, (c .before .before .loop .inv .2, omega arith))
+
+add-i : tie.Need-add-i Inv-loop μ-loop
+add-i c = omega arith
+
+loop-less : tie.Need-loop-less Inv-loop μ-loop
+loop-less c = omega arith
+
+loop-again : tie.Need-loop-again Inv-loop μ-loop
+unfolding stateFrom
+loop-again c =
+    let sums = with-capped _ _ _ _ (c .with .ensures) in (
+      omega arith,
+      sums .0,
+      sums .1,
+      c .before .before .before .loop .inv .3 ∙ after-step _ _ _ _ _ _ _ (omega arith) (c .before .at .ensures) (c .with .ensures),
+    )
+
+returns : tie.Need-returns Inv-loop μ-loop
+returns c = sym (after-end _ _ _ _ _ (c .loop-test .left)) ∙ sym (c .before .loop .inv .3) ∙ after-all _
+
+pub tally-states-spec : {M : Type 1} → statement M
+tally-states-spec =
+    tie.close
+    (tie.spec
+    Inv-loop
+    μ-loop
+    loop-holds
+    mul-at
+    add-at
+    at-requires
+    with-requires
+    add-i
+    loop-less
+    loop-again
+    returns)

@@ -1,0 +1,193 @@
+// State records, their tally, and where a record of a variable set lies (document 01, "State records and unequal lengths").
+ghost use mathlib.Core.Bool.{cond, _&&_};
+ghost use mathlib.Core.Path.{_≡_};
+ghost use lib.Dec.{eqb};
+ghost use Prim.Native.Nat.{_+_, _*_, _≤_, _<_};
+ghost use lib.ListN.{length};
+ghost use Rattle.layout.specs.Bytes.{part};
+ghost use Rattle.layout.specs.States.{stateOf, stateFits, stateCount, tallyOf};
+ghost use Rattle.layout.specs.Records.{variableLengths};
+ghost use Rattle.states.specs.States.{stateIs, cap, capped, Capped, added, withState, statesFrom, tallyIs, found};
+
+// Source 003, table 15.4.1.7.20-1.
+pub struct State {
+    pub flag: u8,
+    pub kind: u8,
+    pub count: u16,
+    pub record_length: u32,
+}
+
+impl State {
+    pub const SIZE: usize = 1387;
+
+    // The state whose record begins at a place.
+    pub fn at(p: &[u8], at: usize) -> State
+        requires { ⌜ at + 1387 ≤ length (now p) ⌝ }
+        ensures { λ r. ⌜ stateIs r ≡ stateOf (part (now (p .entry)) at 1387) ⌝ }
+    {
+        State {
+            flag: p[at + 12],
+            kind: p[at + 1116],
+            count: octets::unsigned(p, at + 1381, 2) as u16,
+            record_length: octets::unsigned(p, at + 1383, 4) as u32,
+        }
+    }
+
+    // Flag 0 or 1 and, at flag 0 only, both kind 1 to 4 and length at least 1 if its count is at least 1.
+    pub fn fits(self) -> bool
+        ensures { λ r. ⌜ r ≡ stateFits (stateIs self) ⌝ }
+    {
+        if self.flag == 1 {
+            return true;
+        }
+        if 1 < self.flag {
+            return false;
+        }
+        if self.kind < 1 {
+            return false;
+        }
+        if 4 < self.kind {
+            return false;
+        }
+        if self.count == 0 {
+            return true;
+        }
+        self.record_length != 0
+    }
+
+    // How many records the state adds to a set of this kind. Flag 0 means that records ARE attached.
+    pub fn adds_to(self, kind: u8) -> u64
+        ensures { λ r. ⌜ (r ≡ stateCount kind (stateIs self)) × (r < 65536) ⌝ }
+    {
+        if self.flag != 0 {
+            return 0;
+        }
+        if self.kind != kind {
+            return 0;
+        }
+        self.count as u64
+    }
+}
+
+// The states of a product together. The number of the first state that does not fit, or how many there are; the records of kinds 1 to 4, and their
+// bytes.
+pub struct Tally {
+    pub bad: usize,
+    pub counts: [u64; 4],
+    pub totals: [u64; 4],
+}
+
+// 2^62, at which a sum stops: the states of a product can total more than 64 bits hold.
+const CAP: u64 = 4611686018427387904;
+
+fn plus(sum: u64, more: u64) -> u64
+    requires { ⌜ (sum ≤ cap) × (more ≤ cap) ⌝ }
+    ensures { λ r. ⌜ r ≡ capped (sum + more) ⌝ }
+{
+    let all = sum + more;
+    if CAP < all {
+        return CAP;
+    }
+    all
+}
+
+// So much more for one kind, if it is one of the four.
+fn plus_at(sums: [u64; 4], kind: u8, more: u64) -> [u64; 4]
+    requires { ⌜ Capped sums × (more ≤ cap) ⌝ }
+    ensures { λ r. ⌜ r ≡ added sums kind more ⌝ }
+{
+    if kind < 1 {
+        return sums;
+    }
+    if 4 < kind {
+        return sums;
+    }
+    let place = (kind - 1) as usize;
+    let mut out = sums;
+    out[place] = plus(sums[place], more);
+    out
+}
+
+// The number of the first state that does not fit, or how many there are, behind state i: one more only where all before it fit and it fits too.
+fn fitting(bad: usize, i: usize, fits: bool) -> usize
+    requires { ⌜ i < 9223372036854775807 ⌝ }
+    ensures { λ r. ⌜ r ≡ cond (eqb bad i && fits) (bad + 1) bad ⌝ }
+{
+    if bad != i {
+        return bad;
+    }
+    if fits {
+        return bad + 1;
+    }
+    bad
+}
+
+impl Tally {
+    // One more state, number i.
+    fn with(self, state: State, i: usize) -> Tally
+        requires { ⌜ Capped (self .counts) × (Capped (self .totals) × (i < 9223372036854775807)) ⌝ }
+        ensures { λ r. ⌜ r ≡ withState self (stateIs state) i ⌝ }
+    {
+        let kind = state.kind;
+        let more = state.adds_to(kind);
+        let bytes = more * state.record_length as u64;
+        let counts = self.counts;
+        let totals = self.totals;
+        Tally {
+            bad: fitting(self.bad, i, state.fits()),
+            counts: plus_at(counts, kind, more),
+            totals: plus_at(totals, kind, bytes),
+        }
+    }
+}
+
+// Of the states whose records begin at a place and follow each other.
+pub fn tally_states(p: &[u8], start: usize, count: usize) -> Tally
+    requires { ⌜ start + 1387 * count ≤ length (now p) ⌝ }
+    ensures { λ r. ⌜ r ≡ tallyIs (tallyOf (statesFrom (now (p .entry)) start count)) ⌝ }
+{
+    let mut t = Tally {
+        bad: 0,
+        counts: [0; 4],
+        totals: [0; 4],
+    };
+    let mut i = 0;
+    while i < count {
+        let at = start + State::SIZE * i;
+        t = t.with(State::at(p, at), i);
+        i += 1;
+    }
+    t
+}
+
+// A record of a variable set: the bytes of the records before it, and its length.
+pub enum Found {
+    At { before: u64, length: u64 },
+    Nothing,
+}
+
+// The record that is asked for, of the set of a kind.
+pub fn find_record(p: &[u8], start: usize, count: usize, kind: u8, asked: usize) -> Found
+    requires { ⌜ start + 1387 * count ≤ length (now p) ⌝ }
+    ensures { λ r. ⌜ r ≡ found (variableLengths (statesFrom (now (p .entry)) start count) kind) asked ⌝ }
+{
+    let mut before = 0;
+    let mut left = asked as u64;
+    let mut i = 0;
+    while i < count {
+        let at = start + State::SIZE * i;
+        let state = State::at(p, at);
+        let n = state.adds_to(kind);
+        let length = state.record_length as u64;
+        if left < n {
+            return Found::At {
+                before: plus(before, left * length),
+                length,
+            };
+        }
+        left -= n;
+        before = plus(before, n * length);
+        i += 1;
+    }
+    Found::Nothing
+}
