@@ -8,7 +8,7 @@ use mathlib.Core.List.{List, [], _∷_, _++_, map}
 use mathlib.Core.Path.{_≡_, refl, sym, ap, _∙_, subst}
 use native.Mathlib.Omega.{arith}
 use native.Mathlib.Nat.{zero-add, add-suc, suc-add, le-of-suc-le-suc, not-suc-le-zero}
-use lib.Dec.{T, ltb, eqb, eqb→eq, lt→ltb}
+use lib.Dec.{T, leb, ltb, eqb, eqb→eq, leb→le, lt→ltb}
 use lib.IntN.{ℤ, pos, negsuc, negℤ, pos-ne-negsuc}
 use lib.Signed.{ltZ, leZ, _≤ℤ_}
 use lib.ListN.{length, getD, replicate, length-map}
@@ -16,10 +16,10 @@ use Rattle.layout.specs.Bytes.{bytes, member}
 use Rattle.layout.specs.Text.{Number, whole}
 use Rattle.layout.specs.Answer.{Answer, accepted, refused, _orElse_, need}
 use Rattle.layout.specs.Search.{first, some, upto, firstRule}
-use Rattle.layout.specs.Entries.{Entry, sphSize, headersEnd, entries, dsdAt, dsdBytes, entryOf, entryAt, directory, at, isData, nonEmpty, start, extent, isVariable}
+use Rattle.layout.specs.Entries.{Entry, sphSize, numDsd, headersEnd, entries, dsdAt, dsdBytes, entryOf, entryAt, directory, at, isData, nonEmpty, start, extent, isVariable}
 use Rattle.layout.specs.States.{State, statesOf, tallyOf}
 use Rattle.layout.specs.Records.{lengths}
-use Rattle.layout.specs.Rules.{rule6, sphFits, dsdsFit, rule8, rule8At, rule10, rule10At, rule12, rule12At, setInside, rule13, rule13At, sharesAt, rule14, rule14At, holdsAt, rule15, rule16, rule16At, isFilled, headerRules, stateRules, verdict}
+use Rattle.layout.specs.Rules.{rule2, rule6, sphFits, dsdsFit, rule8, rule8At, rule10, rule10At, rule12, rule12At, setInside, rule13, rule13At, sharesAt, rule14, rule14At, holdsAt, rule15, rule16, rule16At, isFilled, headerRules, stateRules, verdict}
 use Rattle.layout.proofs.Laws.{and-T, imp-T, not-T′, leb-T, eqb-T, leZ-T, ltZ-T, eqZ-T, need-accepts, orElse-accepts, where-accepts, first-accepts, first-accepts-0, some-T}
 use Rattle.layout.proofs.Types.{Typed, laidOut-typed}
 use Rattle.layout.proofs.Widths.{count-small}
@@ -72,6 +72,16 @@ no-magnitude n h = go (n .minus) (n .magnitude) h
     go true (suc k) h = absurd (pos-ne-negsuc 0 k (sym h))
     go false k h = cc
 
+-- a number from 0 to m has such a magnitude
+pub within-magnitude : (n : Number) (m : ℕ) → pos 0 ≤ℤ whole n → whole n ≤ℤ pos m → n .magnitude ≤ m
+unfolding whole
+within-magnitude n m l u = go (n .minus) (n .magnitude) (l .le) (u .le)
+  where
+    go : (s : Bool) (k : ℕ) → T (leZ (pos 0) (cond s (negℤ (pos k)) (pos k))) → T (leZ (cond s (negℤ (pos k)) (pos k)) (pos m)) → k ≤ m
+    go true zero l u = omega arith
+    go true (suc k) l u = absurd l
+    go false k l u = leb→le k m u
+
 -- neither negative nor above zero
 not-above : (z : ℤ) → pos 0 ≤ℤ z → ltZ (pos 0) z ≡ false → z ≡ pos 0
 not-above (pos zero) l h = refl
@@ -94,7 +104,7 @@ unfolding isData
 m-data e h = rw h
 
 module _ (e : Entry) (fit : NumbersFit e) (typed : Typed e) (empty : nonEmpty e ≡ false) where
-  no-count : e .count .magnitude ≡ 0
+  pub no-count : e .count .magnitude ≡ 0
   unfolding nonEmpty
   no-count = go typed (isData e) refl
     where
@@ -124,7 +134,7 @@ module _ (e : Entry) (fit : NumbersFit e) (typed : Typed e) (empty : nonEmpty e 
 module _ (b : List ℕ) (h : firstRule headerRules b (length b) ≡ accepted) where
   abbrev Accepts : Type 0
   Accepts =
-      (rule6 b (length b) ≡ accepted)
+      ((rule2 b (length b) ≡ accepted) × (rule6 b (length b) ≡ accepted))
       × ((rule8 b (length b) ≡ accepted)
       × ((rule10 b (length b) ≡ accepted)
       × ((rule12 b (length b) ≡ accepted)
@@ -138,11 +148,19 @@ module _ (b : List ℕ) (h : firstRule headerRules b (length b) ≡ accepted) wh
       let r6 = r .1 .1 .1 .1 .1 in
       let r8 = r6 .1 .1 in
       let r10 = r8 .1 .1 in
-      (r6 .0, (r8 .0, (r10 .0, (r10 .1 .1 .0, (r10 .1 .1 .1 .0, r10 .1 .1 .1 .1 .0)))))
+      ((r .1 .0, r6 .0), (r8 .0, (r10 .0, (r10 .1 .1 .0, (r10 .1 .1 .1 .0, r10 .1 .1 .1 .1 .0)))))
+
+  pub rule2-sound : length b ≤ 2147483647
+  unfolding rule2
+  rule2-sound = simp tests at (rules-accept .0 .0)
 
   pub rule6-sound : (headersEnd b ≤ length b) × (280 * entries b ≤ sphSize b .magnitude)
   unfolding rule6 sphFits dsdsFit
-  rule6-sound = let r = simp tests at (rules-accept .0) in (r .0 .1, r .1 .0 .1)
+  rule6-sound = let r = simp tests at (rules-accept .0 .1) in (r .0 .1, r .1 .0 .1)
+
+  pub entries-sound : entries b ≤ 128
+  unfolding rule6 sphFits dsdsFit entries
+  entries-sound = let r = simp tests at (rules-accept .0 .1) in within-magnitude (numDsd b) 128 (r .1 .0 .0 .0) (r .1 .0 .0 .1)
 
   pub rule8-sound : (i : ℕ) → i < length (directory b) → Typed (at (directory b) i)
   unfolding rule8 rule8At entryAt
