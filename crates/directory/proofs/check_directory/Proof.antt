@@ -1,0 +1,126 @@
+-- `directory::check_directory` meets its contract.
+-- Assumes nothing.
+use Prim.Native.Nat.{_*_, _-_}
+use mathlib.Core.Path.{sym, ap, _∙_, refl}
+use native.Mathlib.Omega.{arith}
+use Rattle.layout.specs.Answers.{verdictIs}
+use Rattle.directory.proofs.Rules.{dsds-of, stopped, stop-text, stop-over, stop-numbers, stop-places, passed, by-over, by-numbers, by-sets, by-held}
+use borrow.Author.Needs.{needs}
+use Rattle.directory.proofs.check_directory.Statement.{statement}
+use Rattle.directory.proofs.check_directory.Tie as tie
+
+mul-dsds : tie.Need-mul-dsds
+mul-dsds c = omega arith
+
+sub-dsds : tie.Need-sub-dsds
+sub-dsds c = omega arith
+
+check-text-requires : tie.Need-check-text-requires
+check-text-requires c κs = dsds-of (c .before .pre)
+
+enum-known-text : tie.Need-enum-known-text
+enum-known-text c = search needs
+
+refused-check-requires : tie.Need-refused-check-requires
+refused-check-requires c κs = search needs
+
+returns : tie.Need-returns
+unfolding verdictIs
+returns c = stopped (c .before .before .before .before .before .before .args .p .now) (c .before .before .before .before .before .before .args .length) (c .refused-check .result) (stop-text (c .before .before .before .before .before .before .args .p .now) (c .before .before .before .before .before .before .args .length) (sym (ap verdictIs (c .before .before .text .given .1)) ∙ c .before .before .before .before .check-text .ensures (c .before .before .before .before .before .before .args .length))) (c .refused-check .ensures)
+
+enum-told : tie.Need-enum-told
+enum-told c = search needs
+
+read-sets-requires : tie.Need-read-sets-requires
+read-sets-requires c κs = dsds-of (c .before .before .before .before .pre)
+
+enum-known-over : tie.Need-enum-known-over
+enum-known-over c = search needs
+
+refused-check-requires-2 : tie.Need-refused-check-requires-2
+refused-check-requires-2 c κs = search needs
+
+returns-2 : tie.Need-returns-2
+unfolding verdictIs
+returns-2 c =
+    stopped (c .before .before .before .before .before .before .before .before .before .args .p .now) (c .before .before .before .before .before .before .before .before .before .args .length) (c .refused-check2 .result)
+    (stop-over (c .before .before .before .before .before .before .before .before .before .args .p .now) (c .before .before .before .before .before .before .before .before .before .args .length) (sym (c .before .before .before .before .before .before .before .check-text .ensures (c .before .before .before .before .before .before .before .before .before .args .length)) ∙ ap verdictIs (c .before .before .before .before .before .enum-told .given .1)) (sym (ap verdictIs (c .before .before .over .given .1)) ∙ by-over (c .before .before .before .before .before .before .before .before .before .args .p .now) (c .before .before .before .before .before .before .before .before .before .args .length) (c .before .before .before .before .before .before .before .before .before .args .headers-end - 280 * c .before .before .before .before .before .before .before .before .before .args .entries) (c .before .before .before .before .before .before .before .before .before .args .entries) (dsds-of (c .before .before .before .before .before .before .before .before .before .pre)) (c .before .before .before .before .read-sets .result) (c .before .before .before .before .read-sets .ensures)))
+    (c .refused-check2 .ensures)
+
+enum-told-2 : tie.Need-enum-told-2
+enum-told-2 c = search needs
+
+check-numbers-requires : tie.Need-check-numbers-requires
+check-numbers-requires c κs = (dsds-of (c .before .before .before .before .before .before .before .pre), c .before .before .read-sets .ensures .within)
+
+enum-known-numbers : tie.Need-enum-known-numbers
+enum-known-numbers c = search needs
+
+refused-check-requires-3 : tie.Need-refused-check-requires-3
+refused-check-requires-3 c κs = search needs
+
+returns-3 : tie.Need-returns-3
+unfolding verdictIs
+returns-3 c =
+    stopped (c .before .before .before .before .before .before .before .before .before .before .before .before .args .p .now) (c .before .before .before .before .before .before .before .before .before .before .before .before .args .length) (c .refused-check3 .result)
+    (stop-numbers (c .before .before .before .before .before .before .before .before .before .before .before .before .args .p .now) (c .before .before .before .before .before .before .before .before .before .before .before .before .args .length) (sym (c .before .before .before .before .before .before .before .before .before .before .check-text .ensures (c .before .before .before .before .before .before .before .before .before .before .before .before .args .length)) ∙ ap verdictIs (c .before .before .before .before .before .before .before .before .enum-told .given .1)) (sym (by-over (c .before .before .before .before .before .before .before .before .before .before .before .before .args .p .now) (c .before .before .before .before .before .before .before .before .before .before .before .before .args .length) (c .before .before .before .before .before .before .before .before .before .before .before .before .args .headers-end - 280 * c .before .before .before .before .before .before .before .before .before .before .before .before .args .entries) (c .before .before .before .before .before .before .before .before .before .before .before .before .args .entries) (dsds-of (c .before .before .before .before .before .before .before .before .before .before .before .before .pre)) (c .before .before .before .before .before .before .before .read-sets .result) (c .before .before .before .before .before .before .before .read-sets .ensures)) ∙ ap verdictIs (c .before .before .before .before .before .enum-told2 .given .1)) (sym (ap verdictIs (c .before .before .numbers .given .1)) ∙ c .before .before .before .before .check-numbers .ensures ∙ by-numbers (c .before .before .before .before .before .before .before .before .before .before .before .before .args .p .now) (c .before .before .before .before .before .before .before .before .before .before .before .before .args .length) (c .before .before .before .before .before .before .before .before .before .before .before .before .args .headers-end - 280 * c .before .before .before .before .before .before .before .before .before .before .before .before .args .entries) (c .before .before .before .before .before .before .before .before .before .before .before .before .args .entries) (dsds-of (c .before .before .before .before .before .before .before .before .before .before .before .before .pre)) (c .before .before .before .before .before .before .before .read-sets .result) (c .before .before .before .before .before .before .before .read-sets .ensures) (sym (by-over (c .before .before .before .before .before .before .before .before .before .before .before .before .args .p .now) (c .before .before .before .before .before .before .before .before .before .before .before .before .args .length) (c .before .before .before .before .before .before .before .before .before .before .before .before .args .headers-end - 280 * c .before .before .before .before .before .before .before .before .before .before .before .before .args .entries) (c .before .before .before .before .before .before .before .before .before .before .before .before .args .entries) (dsds-of (c .before .before .before .before .before .before .before .before .before .before .before .before .pre)) (c .before .before .before .before .before .before .before .read-sets .result) (c .before .before .before .before .before .before .before .read-sets .ensures)) ∙ ap verdictIs (c .before .before .before .before .before .enum-told2 .given .1))))
+    (c .refused-check3 .ensures)
+
+enum-told-3 : tie.Need-enum-told-3
+enum-told-3 c = search needs
+
+check-places-requires : tie.Need-check-places-requires
+check-places-requires c κs = c .before .before .before .before .before .before .before .before .before .before .before .before .before .before .pre .most
+
+enum-known-places : tie.Need-enum-known-places
+enum-known-places c = search needs
+
+refused-check-requires-4 : tie.Need-refused-check-requires-4
+refused-check-requires-4 c κs = search needs
+
+returns-4 : tie.Need-returns-4
+unfolding verdictIs
+returns-4 c =
+    stopped (c .before .before .before .before .before .before .before .before .before .before .before .before .before .before .before .before .before .before .before .args .p .now) (c .before .before .before .before .before .before .before .before .before .before .before .before .before .before .before .before .before .before .before .args .length) (c .refused-check4 .result)
+    (stop-places (c .before .before .before .before .before .before .before .before .before .before .before .before .before .before .before .before .before .before .before .args .p .now) (c .before .before .before .before .before .before .before .before .before .before .before .before .before .before .before .before .before .before .before .args .length) (sym (c .before .before .before .before .before .before .before .before .before .before .before .before .before .before .before .before .before .check-text .ensures (c .before .before .before .before .before .before .before .before .before .before .before .before .before .before .before .before .before .before .before .args .length)) ∙ ap verdictIs (c .before .before .before .before .before .before .before .before .before .before .before .before .before .before .before .enum-told .given .1)) (sym (by-over (c .before .before .before .before .before .before .before .before .before .before .before .before .before .before .before .before .before .before .before .args .p .now) (c .before .before .before .before .before .before .before .before .before .before .before .before .before .before .before .before .before .before .before .args .length) (c .before .before .before .before .before .before .before .before .before .before .before .before .before .before .before .before .before .before .before .args .headers-end - 280 * c .before .before .before .before .before .before .before .before .before .before .before .before .before .before .before .before .before .before .before .args .entries) (c .before .before .before .before .before .before .before .before .before .before .before .before .before .before .before .before .before .before .before .args .entries) (dsds-of (c .before .before .before .before .before .before .before .before .before .before .before .before .before .before .before .before .before .before .before .pre)) (c .before .before .before .before .before .before .before .before .before .before .before .before .before .before .read-sets .result) (c .before .before .before .before .before .before .before .before .before .before .before .before .before .before .read-sets .ensures)) ∙ ap verdictIs (c .before .before .before .before .before .before .before .before .before .before .before .before .enum-told2 .given .1)) (sym (c .before .before .before .before .before .before .before .before .before .before .before .check-numbers .ensures ∙ by-numbers (c .before .before .before .before .before .before .before .before .before .before .before .before .before .before .before .before .before .before .before .args .p .now) (c .before .before .before .before .before .before .before .before .before .before .before .before .before .before .before .before .before .before .before .args .length) (c .before .before .before .before .before .before .before .before .before .before .before .before .before .before .before .before .before .before .before .args .headers-end - 280 * c .before .before .before .before .before .before .before .before .before .before .before .before .before .before .before .before .before .before .before .args .entries) (c .before .before .before .before .before .before .before .before .before .before .before .before .before .before .before .before .before .before .before .args .entries) (dsds-of (c .before .before .before .before .before .before .before .before .before .before .before .before .before .before .before .before .before .before .before .pre)) (c .before .before .before .before .before .before .before .before .before .before .before .before .before .before .read-sets .result) (c .before .before .before .before .before .before .before .before .before .before .before .before .before .before .read-sets .ensures) (sym (by-over (c .before .before .before .before .before .before .before .before .before .before .before .before .before .before .before .before .before .before .before .args .p .now) (c .before .before .before .before .before .before .before .before .before .before .before .before .before .before .before .before .before .before .before .args .length) (c .before .before .before .before .before .before .before .before .before .before .before .before .before .before .before .before .before .before .before .args .headers-end - 280 * c .before .before .before .before .before .before .before .before .before .before .before .before .before .before .before .before .before .before .before .args .entries) (c .before .before .before .before .before .before .before .before .before .before .before .before .before .before .before .before .before .before .before .args .entries) (dsds-of (c .before .before .before .before .before .before .before .before .before .before .before .before .before .before .before .before .before .before .before .pre)) (c .before .before .before .before .before .before .before .before .before .before .before .before .before .before .read-sets .result) (c .before .before .before .before .before .before .before .before .before .before .before .before .before .before .read-sets .ensures)) ∙ ap verdictIs (c .before .before .before .before .before .before .before .before .before .before .before .before .enum-told2 .given .1))) ∙ ap verdictIs (c .before .before .before .before .before .before .before .before .before .enum-told3 .given .1))
+    (sym (ap verdictIs (c .before .before .places .given .1)) ∙ by-held (c .before .before .before .before .before .before .before .before .before .before .before .before .before .before .before .before .before .before .before .args .p .now) (c .before .before .before .before .before .before .before .before .before .before .before .before .before .before .before .before .before .before .before .args .length) (c .before .before .before .before .before .before .before .before .before .before .before .before .before .before .before .before .before .before .before .args .headers-end) (c .before .before .before .before .before .before .before .before .before .before .before .before .before .before .before .before .before .before .before .args .entries) (c .before .before .before .before .before .before .before .before .before .before .before .before .before .before .before .before .before .before .before .pre) (c .before .before .before .before .before .before .before .before .before .before .before .before .before .before .read-sets .result) (c .before .before .before .before .before .before .before .before .before .before .before .before .before .before .read-sets .ensures) (sym (c .before .before .before .before .before .before .before .before .before .before .before .before .before .before .before .before .before .check-text .ensures (c .before .before .before .before .before .before .before .before .before .before .before .before .before .before .before .before .before .before .before .args .length)) ∙ ap verdictIs (c .before .before .before .before .before .before .before .before .before .before .before .before .before .before .before .enum-told .given .1)) (sym (by-over (c .before .before .before .before .before .before .before .before .before .before .before .before .before .before .before .before .before .before .before .args .p .now) (c .before .before .before .before .before .before .before .before .before .before .before .before .before .before .before .before .before .before .before .args .length) (c .before .before .before .before .before .before .before .before .before .before .before .before .before .before .before .before .before .before .before .args .headers-end - 280 * c .before .before .before .before .before .before .before .before .before .before .before .before .before .before .before .before .before .before .before .args .entries) (c .before .before .before .before .before .before .before .before .before .before .before .before .before .before .before .before .before .before .before .args .entries) (dsds-of (c .before .before .before .before .before .before .before .before .before .before .before .before .before .before .before .before .before .before .before .pre)) (c .before .before .before .before .before .before .before .before .before .before .before .before .before .before .read-sets .result) (c .before .before .before .before .before .before .before .before .before .before .before .before .before .before .read-sets .ensures)) ∙ ap verdictIs (c .before .before .before .before .before .before .before .before .before .before .before .before .enum-told2 .given .1)) (sym (c .before .before .before .before .before .before .before .before .before .before .before .check-numbers .ensures ∙ by-numbers (c .before .before .before .before .before .before .before .before .before .before .before .before .before .before .before .before .before .before .before .args .p .now) (c .before .before .before .before .before .before .before .before .before .before .before .before .before .before .before .before .before .before .before .args .length) (c .before .before .before .before .before .before .before .before .before .before .before .before .before .before .before .before .before .before .before .args .headers-end - 280 * c .before .before .before .before .before .before .before .before .before .before .before .before .before .before .before .before .before .before .before .args .entries) (c .before .before .before .before .before .before .before .before .before .before .before .before .before .before .before .before .before .before .before .args .entries) (dsds-of (c .before .before .before .before .before .before .before .before .before .before .before .before .before .before .before .before .before .before .before .pre)) (c .before .before .before .before .before .before .before .before .before .before .before .before .before .before .read-sets .result) (c .before .before .before .before .before .before .before .before .before .before .before .before .before .before .read-sets .ensures) (sym (by-over (c .before .before .before .before .before .before .before .before .before .before .before .before .before .before .before .before .before .before .before .args .p .now) (c .before .before .before .before .before .before .before .before .before .before .before .before .before .before .before .before .before .before .before .args .length) (c .before .before .before .before .before .before .before .before .before .before .before .before .before .before .before .before .before .before .before .args .headers-end - 280 * c .before .before .before .before .before .before .before .before .before .before .before .before .before .before .before .before .before .before .before .args .entries) (c .before .before .before .before .before .before .before .before .before .before .before .before .before .before .before .before .before .before .before .args .entries) (dsds-of (c .before .before .before .before .before .before .before .before .before .before .before .before .before .before .before .before .before .before .before .pre)) (c .before .before .before .before .before .before .before .before .before .before .before .before .before .before .read-sets .result) (c .before .before .before .before .before .before .before .before .before .before .before .before .before .before .read-sets .ensures)) ∙ ap verdictIs (c .before .before .before .before .before .before .before .before .before .before .before .before .enum-told2 .given .1))) ∙ ap verdictIs (c .before .before .before .before .before .before .before .before .before .enum-told3 .given .1)) (c .before .before .before .before .check-places .ensures)))
+    (c .refused-check4 .ensures)
+
+enum-told-4 : tie.Need-enum-told-4
+enum-told-4 c = search needs
+
+returns-5 : tie.Need-returns-5
+unfolding verdictIs
+returns-5 c =
+    passed (c .before .before .before .before .before .before .before .before .before .before .before .before .before .before .before .before .before .args .p .now) (c .before .before .before .before .before .before .before .before .before .before .before .before .before .before .before .before .before .args .length) _ (sym (c .before .before .before .before .before .before .before .before .before .before .before .before .before .before .before .check-text .ensures (c .before .before .before .before .before .before .before .before .before .before .before .before .before .before .before .before .before .args .length)) ∙ ap verdictIs (c .before .before .before .before .before .before .before .before .before .before .before .before .before .enum-told .given .1)) (sym (by-over (c .before .before .before .before .before .before .before .before .before .before .before .before .before .before .before .before .before .args .p .now) (c .before .before .before .before .before .before .before .before .before .before .before .before .before .before .before .before .before .args .length) (c .before .before .before .before .before .before .before .before .before .before .before .before .before .before .before .before .before .args .headers-end - 280 * c .before .before .before .before .before .before .before .before .before .before .before .before .before .before .before .before .before .args .entries) (c .before .before .before .before .before .before .before .before .before .before .before .before .before .before .before .before .before .args .entries) (dsds-of (c .before .before .before .before .before .before .before .before .before .before .before .before .before .before .before .before .before .pre)) (c .before .before .before .before .before .before .before .before .before .before .before .before .read-sets .result) (c .before .before .before .before .before .before .before .before .before .before .before .before .read-sets .ensures)) ∙ ap verdictIs (c .before .before .before .before .before .before .before .before .before .before .enum-told2 .given .1)) (sym (c .before .before .before .before .before .before .before .before .before .check-numbers .ensures ∙ by-numbers (c .before .before .before .before .before .before .before .before .before .before .before .before .before .before .before .before .before .args .p .now) (c .before .before .before .before .before .before .before .before .before .before .before .before .before .before .before .before .before .args .length) (c .before .before .before .before .before .before .before .before .before .before .before .before .before .before .before .before .before .args .headers-end - 280 * c .before .before .before .before .before .before .before .before .before .before .before .before .before .before .before .before .before .args .entries) (c .before .before .before .before .before .before .before .before .before .before .before .before .before .before .before .before .before .args .entries) (dsds-of (c .before .before .before .before .before .before .before .before .before .before .before .before .before .before .before .before .before .pre)) (c .before .before .before .before .before .before .before .before .before .before .before .before .read-sets .result) (c .before .before .before .before .before .before .before .before .before .before .before .before .read-sets .ensures) (sym (by-over (c .before .before .before .before .before .before .before .before .before .before .before .before .before .before .before .before .before .args .p .now) (c .before .before .before .before .before .before .before .before .before .before .before .before .before .before .before .before .before .args .length) (c .before .before .before .before .before .before .before .before .before .before .before .before .before .before .before .before .before .args .headers-end - 280 * c .before .before .before .before .before .before .before .before .before .before .before .before .before .before .before .before .before .args .entries) (c .before .before .before .before .before .before .before .before .before .before .before .before .before .before .before .before .before .args .entries) (dsds-of (c .before .before .before .before .before .before .before .before .before .before .before .before .before .before .before .before .before .pre)) (c .before .before .before .before .before .before .before .before .before .before .before .before .read-sets .result) (c .before .before .before .before .before .before .before .before .before .before .before .before .read-sets .ensures)) ∙ ap verdictIs (c .before .before .before .before .before .before .before .before .before .before .enum-told2 .given .1))) ∙ ap verdictIs (c .before .before .before .before .before .before .before .enum-told3 .given .1))
+    (sym (by-held (c .before .before .before .before .before .before .before .before .before .before .before .before .before .before .before .before .before .args .p .now) (c .before .before .before .before .before .before .before .before .before .before .before .before .before .before .before .before .before .args .length) (c .before .before .before .before .before .before .before .before .before .before .before .before .before .before .before .before .before .args .headers-end) (c .before .before .before .before .before .before .before .before .before .before .before .before .before .before .before .before .before .args .entries) (c .before .before .before .before .before .before .before .before .before .before .before .before .before .before .before .before .before .pre) (c .before .before .before .before .before .before .before .before .before .before .before .before .read-sets .result) (c .before .before .before .before .before .before .before .before .before .before .before .before .read-sets .ensures) (sym (c .before .before .before .before .before .before .before .before .before .before .before .before .before .before .before .check-text .ensures (c .before .before .before .before .before .before .before .before .before .before .before .before .before .before .before .before .before .args .length)) ∙ ap verdictIs (c .before .before .before .before .before .before .before .before .before .before .before .before .before .enum-told .given .1)) (sym (by-over (c .before .before .before .before .before .before .before .before .before .before .before .before .before .before .before .before .before .args .p .now) (c .before .before .before .before .before .before .before .before .before .before .before .before .before .before .before .before .before .args .length) (c .before .before .before .before .before .before .before .before .before .before .before .before .before .before .before .before .before .args .headers-end - 280 * c .before .before .before .before .before .before .before .before .before .before .before .before .before .before .before .before .before .args .entries) (c .before .before .before .before .before .before .before .before .before .before .before .before .before .before .before .before .before .args .entries) (dsds-of (c .before .before .before .before .before .before .before .before .before .before .before .before .before .before .before .before .before .pre)) (c .before .before .before .before .before .before .before .before .before .before .before .before .read-sets .result) (c .before .before .before .before .before .before .before .before .before .before .before .before .read-sets .ensures)) ∙ ap verdictIs (c .before .before .before .before .before .before .before .before .before .before .enum-told2 .given .1)) (sym (c .before .before .before .before .before .before .before .before .before .check-numbers .ensures ∙ by-numbers (c .before .before .before .before .before .before .before .before .before .before .before .before .before .before .before .before .before .args .p .now) (c .before .before .before .before .before .before .before .before .before .before .before .before .before .before .before .before .before .args .length) (c .before .before .before .before .before .before .before .before .before .before .before .before .before .before .before .before .before .args .headers-end - 280 * c .before .before .before .before .before .before .before .before .before .before .before .before .before .before .before .before .before .args .entries) (c .before .before .before .before .before .before .before .before .before .before .before .before .before .before .before .before .before .args .entries) (dsds-of (c .before .before .before .before .before .before .before .before .before .before .before .before .before .before .before .before .before .pre)) (c .before .before .before .before .before .before .before .before .before .before .before .before .read-sets .result) (c .before .before .before .before .before .before .before .before .before .before .before .before .read-sets .ensures) (sym (by-over (c .before .before .before .before .before .before .before .before .before .before .before .before .before .before .before .before .before .args .p .now) (c .before .before .before .before .before .before .before .before .before .before .before .before .before .before .before .before .before .args .length) (c .before .before .before .before .before .before .before .before .before .before .before .before .before .before .before .before .before .args .headers-end - 280 * c .before .before .before .before .before .before .before .before .before .before .before .before .before .before .before .before .before .args .entries) (c .before .before .before .before .before .before .before .before .before .before .before .before .before .before .before .before .before .args .entries) (dsds-of (c .before .before .before .before .before .before .before .before .before .before .before .before .before .before .before .before .before .pre)) (c .before .before .before .before .before .before .before .before .before .before .before .before .read-sets .result) (c .before .before .before .before .before .before .before .before .before .before .before .before .read-sets .ensures)) ∙ ap verdictIs (c .before .before .before .before .before .before .before .before .before .before .enum-told2 .given .1))) ∙ ap verdictIs (c .before .before .before .before .before .before .before .enum-told3 .given .1)) (c .before .before .check-places .ensures)) ∙ ap verdictIs (c .enum-told4 .given .1))
+    refl
+    (by-sets (c .before .before .before .before .before .before .before .before .before .before .before .before .before .before .before .before .before .args .p .now) (c .before .before .before .before .before .before .before .before .before .before .before .before .before .before .before .before .before .args .length) (c .before .before .before .before .before .before .before .before .before .before .before .before .before .before .before .before .before .args .headers-end - 280 * c .before .before .before .before .before .before .before .before .before .before .before .before .before .before .before .before .before .args .entries) (c .before .before .before .before .before .before .before .before .before .before .before .before .before .before .before .before .before .args .entries) (dsds-of (c .before .before .before .before .before .before .before .before .before .before .before .before .before .before .before .before .before .pre)) (c .before .before .before .before .before .before .before .before .before .before .before .before .read-sets .result) (c .before .before .before .before .before .before .before .before .before .before .before .before .read-sets .ensures) (sym (by-over (c .before .before .before .before .before .before .before .before .before .before .before .before .before .before .before .before .before .args .p .now) (c .before .before .before .before .before .before .before .before .before .before .before .before .before .before .before .before .before .args .length) (c .before .before .before .before .before .before .before .before .before .before .before .before .before .before .before .before .before .args .headers-end - 280 * c .before .before .before .before .before .before .before .before .before .before .before .before .before .before .before .before .before .args .entries) (c .before .before .before .before .before .before .before .before .before .before .before .before .before .before .before .before .before .args .entries) (dsds-of (c .before .before .before .before .before .before .before .before .before .before .before .before .before .before .before .before .before .pre)) (c .before .before .before .before .before .before .before .before .before .before .before .before .read-sets .result) (c .before .before .before .before .before .before .before .before .before .before .before .before .read-sets .ensures)) ∙ ap verdictIs (c .before .before .before .before .before .before .before .before .before .before .enum-told2 .given .1)))
+
+pub check-directory-spec : {M : Type 1} → statement M
+check-directory-spec =
+    tie.close
+    (tie.spec
+    mul-dsds
+    sub-dsds
+    check-text-requires
+    enum-known-text
+    refused-check-requires
+    returns
+    enum-told
+    read-sets-requires
+    enum-known-over
+    refused-check-requires-2
+    returns-2
+    enum-told-2
+    check-numbers-requires
+    enum-known-numbers
+    refused-check-requires-3
+    returns-3
+    enum-told-3
+    check-places-requires
+    enum-known-places
+    refused-check-requires-4
+    returns-4
+    enum-told-4
+    returns-5)

@@ -1,0 +1,71 @@
+-- `directory::check_places` meets its contract.
+-- Assumes nothing.
+use mathlib.Core.Path.{sym, _∙_}
+use native.Mathlib.Omega.{arith}
+use borrow.Author.Tests.{eq-eqb, ne-eqb}
+use Rattle.layout.specs.Answers.{verdictIs}
+use borrow.Author.Needs.{needs}
+use Rattle.directory.proofs.check_places.Statement.{statement}
+use Rattle.directory.proofs.check_places.Tie as tie
+
+first-outside-requires : tie.Need-first-outside-requires
+first-outside-requires c κs = search needs
+
+mul-refuse : tie.Need-mul-refuse
+mul-refuse c = omega (arith, c .before .first-outside .ensures .within)
+
+element-copy-out-refuse : tie.Need-element-copy-out-refuse
+element-copy-out-refuse c = omega (arith, c .before .first-outside .ensures .within)
+
+refuse-requires : tie.Need-refuse-requires
+refuse-requires c κs = search needs
+
+returns : tie.Need-returns
+returns c = λ ds held e. c .refuse .ensures ∙ sym (rw (c .before .before .before .first-outside .ensures .answer ds held e, ne-eqb (c .before .before .before .first-outside .result) (c .before .before .before .before .args .entries) (c .before .before .if1 .taken)))
+
+first-overlapping-requires : tie.Need-first-overlapping-requires
+first-overlapping-requires c κs = search needs
+
+mul-refuse-2 : tie.Need-mul-refuse-2
+mul-refuse-2 c = omega (arith, c .before .first-overlapping .ensures .within)
+
+element-copy-out-refuse-2 : tie.Need-element-copy-out-refuse-2
+element-copy-out-refuse-2 c = omega (arith, c .before .first-overlapping .ensures .within)
+
+refuse-requires-2 : tie.Need-refuse-requires-2
+refuse-requires-2 c κs = search needs
+
+returns-2 : tie.Need-returns-2
+returns-2 c = λ ds held e. c .refuse2 .ensures ∙ sym (rw (c .before .before .before .before .before .first-outside .ensures .answer ds held e, eq-eqb (c .before .before .before .before .before .first-outside .result) (c .before .before .before .before .before .before .args .entries) (c .before .before .before .before .if1 .left), c .before .before .before .first-overlapping .ensures .answer ds held e, ne-eqb (c .before .before .before .first-overlapping .result) (c .before .before .before .before .before .before .args .entries) (c .before .before .if2 .taken)))
+
+first-uncovered-requires : tie.Need-first-uncovered-requires
+first-uncovered-requires c κs = search needs
+
+refuse-requires-3 : tie.Need-refuse-requires-3
+refuse-requires-3 c κs = search needs
+
+returns-3 : tie.Need-returns-3
+returns-3 c = λ ds held e. c .refuse3 .ensures ∙ sym (rw (c .before .before .before .before .before .before .first-outside .ensures .answer ds held e, eq-eqb (c .before .before .before .before .before .before .first-outside .result) (c .before .before .before .before .before .before .before .args .entries) (c .before .before .before .before .before .if1 .left), c .before .before .before .before .first-overlapping .ensures .answer ds held e, eq-eqb (c .before .before .before .before .first-overlapping .result) (c .before .before .before .before .before .before .before .args .entries) (c .before .before .before .if2 .left), c .before .before .first-uncovered .ensures .answer ds held e, ne-eqb (c .before .before .first-uncovered .result) (c .before .before .before .before .before .before .before .args .length) (c .before .if3 .taken)))
+
+returns-4 : tie.Need-returns-4
+unfolding verdictIs
+returns-4 c = λ ds held e. sym (rw (c .before .before .before .before .before .first-outside .ensures .answer ds held e, eq-eqb (c .before .before .before .before .before .first-outside .result) (c .before .before .before .before .before .before .args .entries) (c .before .before .before .before .if1 .left), c .before .before .before .first-overlapping .ensures .answer ds held e, eq-eqb (c .before .before .before .first-overlapping .result) (c .before .before .before .before .before .before .args .entries) (c .before .before .if2 .left), c .before .first-uncovered .ensures .answer ds held e, eq-eqb (c .before .first-uncovered .result) (c .before .before .before .before .before .before .args .length) (c .if3 .left)))
+
+pub check-places-spec : {M : Type 1} → statement M
+check-places-spec =
+    tie.close
+    (tie.spec
+    first-outside-requires
+    mul-refuse
+    element-copy-out-refuse
+    refuse-requires
+    returns
+    first-overlapping-requires
+    mul-refuse-2
+    element-copy-out-refuse-2
+    refuse-requires-2
+    returns-2
+    first-uncovered-requires
+    refuse-requires-3
+    returns-3
+    returns-4)

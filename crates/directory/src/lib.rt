@@ -1,0 +1,586 @@
+// The directory of a product (document 01, rules 7 to 14): what each DSD answers, and what is asked of it.
+ghost use mathlib.Core.Path.{_≡_};
+ghost use mathlib.Core.Bool.{true, not, cond};
+ghost use Prim.Native.Nat.{ℕ, _+_, _*_, _-_, _≤_, _<_};
+ghost use lib.Dec.{ltb, eqb};
+ghost use lib.IntN.{pos, negsuc};
+ghost use lib.ListN.{length};
+ghost use lib.Seq.{paste};
+ghost use mathlib.Core.List.{List, map};
+ghost use Rattle.layout.specs.Answer.{refused, _orElse_, need};
+ghost use Rattle.layout.specs.Answers.{verdictIs, padded, nameOf, filenameOf, directoryOf};
+ghost use Rattle.layout.specs.Bytes.{part};
+ghost use Rattle.layout.specs.Entries.{Entry as LayoutEntry, eqZ, numDataSets, directory, called, isData, allZero, inRange, isFixed, isVariable, setFits, numbersFit, isCounted, atLeast};
+ghost use Rattle.layout.specs.Rules.{rule7, rule8At, rule8, rule12At, rule13At, rule14At};
+ghost use Rattle.layout.specs.Search.{first, join};
+ghost use Rattle.layout.specs.Text.{whole};
+ghost use Rattle.sets.specs.Sets.{Held};
+ghost use Rattle.directory.specs.Checks.{together, setsOf, noSets, entriesTo, Headers, Dsds, ReadAll, Checked};
+ghost use Rattle.directory.specs.Held.{nameRole, numberFrom, viewOf, Read, overPlace, roleOf};
+
+// The 28 bytes from `start` on are this name, padded with blanks.
+fn is_called(p: &[u8], start: usize, name: &[u8]) -> bool
+    requires { ⌜ (start + 28 ≤ length (now p)) × (length (now name) ≤ 28) ⌝ }
+    ensures { λ r. ⌜ r ≡ called (part (now (p .entry)) start 28) (now (name .entry)) ⌝ }
+{
+    let mut i = 0;
+    while i < name.len() {
+        if p[start + i] != name[i] {
+            return false;
+        }
+        i += 1;
+    }
+    text::first_not_blank(p, start + i, start + 28) == start + 28
+}
+
+// What a set of this name may be: of the kinds 1 to 4 of source 003's level 1b name table, or the states, 5.
+fn role_of_name(p: &[u8], start: usize) -> u8
+    requires { ⌜ start + 28 ≤ length (now p) ⌝ }
+    ensures { λ r. ⌜ r ≡ nameRole (part (now (p .entry)) start 28) ⌝ }
+{
+    if is_called(p, start, b"NADIR") {
+        return 1;
+    }
+    if is_called(p, start, b"LIMB") {
+        return 2;
+    }
+    if is_called(p, start, b"OCCULTATION") {
+        return 3;
+    }
+    if is_called(p, start, b"MONITORING") {
+        return 4;
+    }
+    if is_called(p, start, b"STATES") {
+        return 5;
+    }
+    0
+}
+
+// Below zero; minus zero is not.
+fn is_negative(n: text::Number) -> bool
+    ensures { λ r. ⌜ r ≡ not (atLeast (pos 0) (numberFrom n)) ⌝ }
+{
+    if n.magnitude == 0 {
+        return false;
+    }
+    n.minus
+}
+
+// What a DSD answers, with the role of its name.
+pub struct Entry {
+    pub ds_type: u8,
+    pub offset: text::Number,
+    pub size: text::Number,
+    pub count: text::Number,
+    pub record_size: text::Number,
+    pub name_role: u8,
+}
+
+impl Entry {
+    pub const SIZE: usize = 280;
+
+    // The entry of the DSD that begins at `start`.
+    pub fn at(p: &[u8], start: usize) -> Entry
+        requires { ⌜ start + 280 ≤ length (now p) ⌝ }
+        ensures { λ r. ⌜ Read (now (p .entry)) start r ⌝ }
+    {
+        Entry {
+            ds_type: p[start + 47],
+            offset: text::number_at(p, start + 133, 21),
+            size: text::number_at(p, start + 170, 21),
+            count: text::number_at(p, start + 207, 11),
+            record_size: text::number_at(p, start + 228, 11),
+            name_role: role_of_name(p, start + 9),
+        }
+    }
+
+    // Type M, A or G.
+    pub fn is_data(self) -> bool
+        ensures { λ r. ⌜ r ≡ isData (viewOf self) ⌝ }
+    {
+        if self.ds_type == b'M' {
+            return true;
+        }
+        if self.ds_type == b'A' {
+            return true;
+        }
+        self.ds_type == b'G'
+    }
+
+    // Where in the DSD the number stands that passes 2^63 - 1 (rule 9), DS_OFFSET before DS_SIZE; or 0.
+    pub fn over(self) -> usize
+        ensures { λ r. ⌜ r ≡ overPlace (viewOf self) ⌝ }
+    {
+        if 9223372036854775807 < self.offset.magnitude {
+            return 133;
+        }
+        if 9223372036854775807 < self.size.magnitude {
+            return 170;
+        }
+        0
+    }
+
+    // All four numbers are zero.
+    fn is_zero(self) -> bool
+        ensures { λ r. ⌜ r ≡ allZero (viewOf self) ⌝ }
+    {
+        if self.offset.magnitude != 0 {
+            return false;
+        }
+        if self.size.magnitude != 0 {
+            return false;
+        }
+        if self.count.magnitude != 0 {
+            return false;
+        }
+        self.record_size.magnitude == 0
+    }
+
+    // No number is negative but for DSR_SIZE, which is at least -1.
+    fn is_in_range(self) -> bool
+        ensures { λ r. ⌜ r ≡ inRange (viewOf self) ⌝ }
+    {
+        if is_negative(self.offset) {
+            return false;
+        }
+        if is_negative(self.size) {
+            return false;
+        }
+        if is_negative(self.count) {
+            return false;
+        }
+        if !self.record_size.minus {
+            return true;
+        }
+        self.record_size.magnitude <= 1
+    }
+
+    // DSR_SIZE at least 1 and NUM_DSR x DSR_SIZE = DS_SIZE. The product can pass 64 bits, so it is not made.
+    fn is_fixed(self) -> bool
+        ensures { λ r. ⌜ r ≡ isFixed (viewOf self) ⌝ }
+    {
+        if self.record_size.minus {
+            return false;
+        }
+        let record_size = self.record_size.magnitude;
+        if record_size == 0 {
+            return false;
+        }
+        if self.size.magnitude % record_size != 0 {
+            return false;
+        }
+        self.size.magnitude / record_size == self.count.magnitude
+    }
+
+    // DS_SIZE above 0, DSR_SIZE -1, type M, and one of the four names.
+    fn is_variable(self) -> bool
+        ensures { λ r. ⌜ r ≡ isVariable (viewOf self) ⌝ }
+    {
+        if self.size.minus {
+            return false;
+        }
+        if self.size.magnitude == 0 {
+            return false;
+        }
+        if !self.record_size.minus {
+            return false;
+        }
+        if self.record_size.magnitude != 1 {
+            return false;
+        }
+        if self.ds_type != b'M' {
+            return false;
+        }
+        if self.name_role == 0 {
+            return false;
+        }
+        self.name_role < 5
+    }
+
+    // A set with numbers in range: DS_SIZE 0 needs NUM_DSR 0, above 0 NUM_DSR at least 1 and records that fill it.
+    fn set_fits(self) -> bool
+        requires { ⌜ inRange (viewOf self) ≡ true ⌝ }
+        ensures { λ r. ⌜ r ≡ setFits (viewOf self) ⌝ }
+    {
+        if self.size.magnitude == 0 {
+            return self.count.magnitude == 0;
+        }
+        if self.count.magnitude == 0 {
+            return false;
+        }
+        if self.is_fixed() {
+            return true;
+        }
+        self.is_variable()
+    }
+
+    // Rule 10.
+    pub fn numbers_fit(self) -> bool
+        ensures { λ r. ⌜ r ≡ numbersFit (viewOf self) ⌝ }
+    {
+        if self.ds_type == b'R' {
+            return self.is_zero();
+        }
+        if !self.is_data() {
+            return true;
+        }
+        if !self.is_in_range() {
+            return false;
+        }
+        self.set_fits()
+    }
+
+    // How many entries in a row from the first on have numbers that fit, if `fitting` of those before this entry `i` do.
+    fn fitting_with(self, fitting: usize, i: usize) -> usize
+        requires { ⌜ i < 128 ⌝ }
+        ensures { λ r. ⌜ r ≡ cond (ltb fitting i) fitting (cond (numbersFit (viewOf self)) (i + 1) i) ⌝ }
+    {
+        if fitting < i {
+            return fitting;
+        }
+        if self.numbers_fit() {
+            return i + 1;
+        }
+        i
+    }
+
+    // What NUM_DATA_SETS counts, if it counts `counted` before this entry (rule 11).
+    fn counted_with(self, counted: usize) -> usize
+        requires { ⌜ counted < 128 ⌝ }
+        ensures { λ r. ⌜ r ≡ counted + cond (isCounted (viewOf self)) 1 0 ⌝ }
+    {
+        if self.is_data() {
+            return counted + 1;
+        }
+        counted
+    }
+
+    // A variable set's kind 1 to 4; 5 for the states; else 0.
+    pub fn role(self) -> u8
+        ensures { λ r. ⌜ r ≡ roleOf (viewOf self) ⌝ }
+    {
+        if self.is_variable() {
+            return self.name_role;
+        }
+        if self.ds_type != b'A' {
+            return 0;
+        }
+        if self.name_role == 5 {
+            return 5;
+        }
+        0
+    }
+}
+
+// The numbers and roles of up to 128 entries held together, unused places zero.
+pub struct Sets {
+    pub entries: usize,
+    pub types: [u8; 128],
+    pub offsets: [u64; 128],
+    pub sizes: [u64; 128],
+    pub counts: [u64; 128],
+    pub record_sizes: [i64; 128],
+    pub roles: [u8; 128],
+}
+
+impl Sets {
+    fn of(
+        entries: usize,
+        types: [u8; 128],
+        offsets: [u64; 128],
+        sizes: [u64; 128],
+        counts: [u64; 128],
+        record_sizes: [i64; 128],
+        roles: [u8; 128],
+    ) -> Sets
+        ensures { λ r. ⌜ r ≡ together entries types offsets sizes counts «record_sizes» roles ⌝ }
+    {
+        Sets {
+            entries,
+            types,
+            offsets,
+            sizes,
+            counts,
+            record_sizes,
+            roles,
+        }
+    }
+
+    // What stands beside a refusal.
+    pub fn none() -> Sets
+        ensures { λ r. ⌜ r ≡ noSets ⌝ }
+    {
+        Sets {
+            entries: 0,
+            types: [0; 128],
+            offsets: [0; 128],
+            sizes: [0; 128],
+            counts: [0; 128],
+            record_sizes: [0; 128],
+            roles: [0; 128],
+        }
+    }
+}
+
+fn refuse(number: u8, place: u64, entry: usize) -> layout::Verdict
+    ensures { λ r. ⌜ verdictIs r ≡ refused number place entry ⌝ }
+{
+    layout::Verdict::Refused(layout::Refusal {
+        number: number,
+        place: place,
+        entry: entry,
+    })
+}
+
+// Rule 8: the first byte of the DSDs, which begin at `dsds`, that is not as laid out.
+fn check_dsds(p: &[u8], dsds: usize, entries: usize) -> layout::Verdict
+    requires { ⌜ Dsds (now p) dsds entries ⌝ }
+    ensures { λ r. ⌜ verdictIs r ≡ first (rule8At (now (p .entry))) 0 entries ⌝ }
+{
+    let mut i = 0;
+    while i < entries {
+        let start = dsds + Entry::SIZE * i;
+        let bad = lines::dsd_check(p, start);
+        if bad != start + Entry::SIZE {
+            return refuse(8, bad as u64, i);
+        }
+        i += 1;
+    }
+    layout::Verdict::Accepted
+}
+
+// What one reading of the entries gives: rule 9's verdict and, where it accepts, how many entries in a row have numbers that fit (rule 10), how many
+// are counted (rule 11), and the numbers.
+struct Reading {
+    over: layout::Verdict,
+    fitting: usize,
+    counted: usize,
+    sets: Sets,
+}
+
+fn over_reading(place: usize, entry: usize) -> Reading
+    ensures { λ r. ⌜ (verdictIs (r .over) ≡ refused 9 place entry) × (r .fitting ≡ 0) ⌝ }
+{
+    Reading {
+        over: refuse(9, place as u64, entry),
+        fitting: 0,
+        counted: 0,
+        sets: Sets::none(),
+    }
+}
+
+// One reading of the entries.
+fn read_sets(p: &[u8], dsds: usize, entries: usize) -> Reading
+    requires { ⌜ Dsds (now p) dsds entries ⌝ }
+    ensures { λ r. ⌜ ReadAll (now (p .entry)) dsds entries r ⌝ }
+{
+    let mut types = [0u8; 128];
+    let mut offsets = [0u64; 128];
+    let mut sizes = [0u64; 128];
+    let mut counts = [0u64; 128];
+    let mut record_sizes = [0i64; 128];
+    let mut roles = [0u8; 128];
+    let mut fitting = 0;
+    let mut counted = 0;
+    let mut i = 0;
+    while i < entries {
+        let start = dsds + Entry::SIZE * i;
+        let entry = Entry::at(p, start);
+        let over = entry.over();
+        if over != 0 {
+            return over_reading(start + over, i);
+        }
+        types[i] = entry.ds_type;
+        offsets[i] = entry.offset.magnitude;
+        sizes[i] = entry.size.magnitude;
+        counts[i] = entry.count.magnitude;
+        record_sizes[i] = entry.record_size.whole();
+        roles[i] = entry.role();
+        fitting = entry.fitting_with(fitting, i);
+        counted = entry.counted_with(counted);
+        i += 1;
+    }
+    Reading {
+        over: layout::Verdict::Accepted,
+        fitting,
+        counted,
+        sets: Sets::of(entries, types, offsets, sizes, counts, record_sizes, roles),
+    }
+}
+
+// Rules 7 and 8: the SPH lines before the DSDs, and the DSDs.
+fn check_text(p: &[u8], dsds: usize, entries: usize) -> layout::Verdict
+    requires { ⌜ Dsds (now p) dsds entries ⌝ }
+    ensures { λ r. ⌜ ((n : ℕ) → verdictIs r ≡ (rule7 (now (p .entry)) n orElse rule8 (now (p .entry)) n)) ⌝ }
+{
+    let bad = text::first_bad_line(p, dsds);
+    if bad != dsds {
+        return refuse(7, bad as u64, 128);
+    }
+    check_dsds(p, dsds, entries)
+}
+
+// Rules 10 and 11, by what a reading gives.
+fn check_numbers(
+    p: &[u8],
+    dsds: usize,
+    entries: usize,
+    fitting: usize,
+    counted: usize,
+) -> layout::Verdict
+    requires { ⌜ Dsds (now p) dsds entries × (fitting ≤ entries) ⌝ }
+    ensures { λ r. ⌜ verdictIs r ≡ (need (eqb fitting entries) 10 (dsds + 280 * fitting) fitting orElse need (eqZ (whole (numDataSets (now (p .entry)))) (pos counted)) 11 1194 128) ⌝ }
+{
+    if fitting != entries {
+        return refuse(10, (dsds + Entry::SIZE * fitting) as u64, fitting);
+    }
+    let data_sets = text::number_at(p, 1194, 11);
+    if is_negative(data_sets) {
+        return refuse(11, 1194, 128);
+    }
+    if data_sets.magnitude != counted as u64 {
+        return refuse(11, 1194, 128);
+    }
+    layout::Verdict::Accepted
+}
+
+// Rules 12 to 14, by the numbers of the entries.
+fn check_places<'a>(
+    offsets: &'a [u64; 128],
+    sizes: &'a [u64; 128],
+    entries: usize,
+    headers_end: u64,
+    length: u64,
+) -> layout::Verdict
+    requires { ⌜ entries ≤ 128 ⌝ }
+    ensures { λ r. ⌜ ((ds : List LayoutEntry) → Held ds (now (offsets .entry)) (now (sizes .entry)) → lib.ListN.length ds ≡ entries → verdictIs r ≡ (first (rule12At ds «headers_end» length) 0 entries orElse (first (rule13At ds) 0 entries orElse first (rule14At ds) «headers_end» (length - «headers_end»)))) ⌝ }
+{
+    let outside = sets::first_outside(offsets, sizes, entries, headers_end, length);
+    if outside != entries {
+        return refuse(12, offsets[outside], outside);
+    }
+    let overlapping = sets::first_overlapping(offsets, sizes, entries);
+    if overlapping != entries {
+        return refuse(13, offsets[overlapping], overlapping);
+    }
+    let uncovered = sets::first_uncovered(offsets, sizes, entries, headers_end, length);
+    if uncovered != length {
+        return refuse(14, uncovered, 128);
+    }
+    layout::Verdict::Accepted
+}
+
+// What the check of a directory answers; beside a refusal all numbers are zero.
+pub struct DirectoryCheck {
+    pub verdict: layout::Verdict,
+    pub sets: Sets,
+}
+
+fn refused_check(refusal: layout::Refusal) -> DirectoryCheck
+    ensures { λ r. ⌜ (verdictIs (r .verdict) ≡ refused (refusal .number) (refusal .place) (refusal .entry)) × (r .sets ≡ noSets) ⌝ }
+{
+    DirectoryCheck {
+        verdict: layout::Verdict::Refused(refusal),
+        sets: Sets::none(),
+    }
+}
+
+// Rules 7 to 14, of a product of `length` bytes whose headers are at hand.
+pub fn check_directory(p: &[u8], length: u64, headers_end: usize, entries: usize) -> DirectoryCheck
+    requires { ⌜ Headers (now p) «headers_end» entries ⌝ }
+    ensures { λ r. ⌜ Checked (now (p .entry)) length r ⌝ }
+{
+    let dsds = headers_end - Entry::SIZE * entries;
+    let text = check_text(p, dsds, entries);
+    if let layout::Verdict::Refused(refusal) = text {
+        return refused_check(refusal);
+    }
+    let reading = read_sets(p, dsds, entries);
+    let over = reading.over;
+    if let layout::Verdict::Refused(refusal) = over {
+        return refused_check(refusal);
+    }
+    let numbers = check_numbers(p, dsds, entries, reading.fitting, reading.counted);
+    if let layout::Verdict::Refused(refusal) = numbers {
+        return refused_check(refusal);
+    }
+    let read = reading.sets;
+    let places = check_places(
+        &read.offsets,
+        &read.sizes,
+        entries,
+        headers_end as u64,
+        length,
+    );
+    if let layout::Verdict::Refused(refusal) = places {
+        return refused_check(refusal);
+    }
+    DirectoryCheck {
+        verdict: layout::Verdict::Accepted,
+        sets: read,
+    }
+}
+
+// `width` bytes from `from` on go to `to`.
+fn copy_bytes(p: &[u8], from: usize, width: usize, out: &mut [u8], to: usize)
+    requires { ⌜ (from + width ≤ length (now p)) × (to + width ≤ length (now out)) ⌝ }
+    ensures { λ r. ⌜ now (out .exit) ≡ paste (now (out .entry)) to (part (now (p .entry)) from width) width ⌝ }
+{
+    let mut i = 0;
+    while i < width {
+        out[to + i] = p[from + i];
+        i += 1;
+    }
+}
+
+// The names, 28 bytes an entry.
+fn copy_names(p: &[u8], dsds: usize, entries: usize) -> [u8; 3584]
+    requires { ⌜ Dsds (now p) dsds entries ⌝ }
+    ensures { λ r. ⌜ r ≡ padded 3584 0 (join (map nameOf (directory (now (p .entry))))) ⌝ }
+{
+    let mut names = [0u8; 3584];
+    let mut i = 0;
+    while i < entries {
+        copy_bytes(p, dsds + Entry::SIZE * i + 9, 28, &mut names, 28 * i);
+        i += 1;
+    }
+    names
+}
+
+// The FILENAMEs, 62 bytes an entry.
+fn copy_filenames(p: &[u8], dsds: usize, entries: usize) -> [u8; 7936]
+    requires { ⌜ Dsds (now p) dsds entries ⌝ }
+    ensures { λ r. ⌜ r ≡ padded 7936 0 (join (map filenameOf (directory (now (p .entry))))) ⌝ }
+{
+    let mut filenames = [0u8; 7936];
+    let mut i = 0;
+    while i < entries {
+        copy_bytes(p, dsds + Entry::SIZE * i + 59, 62, &mut filenames, 62 * i);
+        i += 1;
+    }
+    filenames
+}
+
+// The directory whose numbers are at hand.
+pub fn read_directory(p: &[u8], headers_end: usize, sets: Sets) -> layout::Directory
+    requires { ⌜ Headers (now p) «headers_end» (sets .entries) × (sets ≡ setsOf (directory (now p))) ⌝ }
+    ensures { λ r. ⌜ r ≡ directoryOf (directory (now (p .entry))) ⌝ }
+{
+    let entries = sets.entries;
+    let dsds = headers_end - Entry::SIZE * entries;
+    let types = sets.types;
+    let offsets = sets.offsets;
+    let sizes = sets.sizes;
+    let counts = sets.counts;
+    let record_sizes = sets.record_sizes;
+    layout::Directory {
+        entries,
+        types,
+        names: copy_names(p, dsds, entries),
+        filenames: copy_filenames(p, dsds, entries),
+        offsets,
+        sizes,
+        counts,
+        record_sizes,
+    }
+}

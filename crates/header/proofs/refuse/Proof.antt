@@ -1,0 +1,13 @@
+-- `header::refuse` meets its contract: its three numbers.
+-- Assumes nothing.
+use mathlib.Core.Path.{refl}
+use Rattle.layout.specs.Answers.{verdictIs}
+use Rattle.header.proofs.refuse.Statement.{statement}
+use Rattle.header.proofs.refuse.Tie as tie
+
+returns : tie.Need-returns
+unfolding verdictIs
+returns c = refl
+
+pub refuse-spec : {M : Type 1} → statement M
+refuse-spec = tie.close (tie.spec returns)

@@ -1,0 +1,44 @@
+-- Rules 1 to 6 of document 01 together, in the groups that the code checks, and what they give of an accepted header.
+-- Assumes nothing.
+use Prim.Native.Nat.{ℕ, _+_, _*_, _≤_, _<_}
+use mathlib.Core.List.{List, []}
+use mathlib.Core.Path.{_≡_}
+use Rattle.layout.specs.Answer.{Answer, accepted, _orElse_}
+use Rattle.layout.specs.Entries.{headersEnd, entries, numDataSets}
+use Rattle.layout.specs.Rules.{rule1, rule2, rule3, rule4, rule5, rule6}
+use Rattle.layout.specs.Answers.{verdictIs}
+use Rattle.text.specs.Numbers.{numberIn}
+use Rattle.text.specs.declared.Number.{Number}
+use Rattle.header.specs.declared.HeaderCheck.{HeaderCheck}
+
+-- rules 1 and 2 look at no byte
+unfoldable pub lengthRules : ℕ → Answer
+lengthRules n = rule1 [] n orElse rule2 [] n
+
+unfoldable pub totalRules : List ℕ → ℕ → Answer
+totalRules b n = rule4 b n orElse rule5 b n
+
+unfoldable pub rules1to6 : List ℕ → ℕ → Answer
+rules1to6 b n = rule1 b n orElse rule2 b n orElse rule3 b n orElse rule4 b n orElse rule5 b n orElse rule6 b n
+
+-- NUM_DATA_SETS as the code holds it is the true one
+pub record DataSets (b : List ℕ) (r : Number) : Type 0 where
+  pub number : r ≡ numberIn b 1194 11
+  pub minus : r .minus ≡ numDataSets b .minus
+  pub magnitude : r .magnitude ≡ numDataSets b .magnitude
+  pub fits : r .magnitude < 9223372036854775808
+
+-- where the headers end and how many directory entries there are: inside the product, with room for the DSDs
+pub record HeadersFit (b : List ℕ) (n : ℕ) (r : HeaderCheck) : Type 0 where
+  pub end-is : r .«headers_end» ≡ headersEnd b
+  pub entries-are : r .entries ≡ entries b
+  pub inside : r .«headers_end» ≤ n
+  pub entries-most : r .entries ≤ 128
+  pub dsds-fit : 1247 + 280 * r .entries ≤ r .«headers_end»
+  pub end-most : r .«headers_end» ≤ 50399
+
+-- the answer to rules 1 to 6; beside a refusal there is nothing else
+pub record HeaderChecked (b : List ℕ) (n : ℕ) (r : HeaderCheck) : Type 0 where
+  pub verdict-is : verdictIs (r .verdict) ≡ rules1to6 b n
+  pub headers : rules1to6 b n ≡ accepted → HeadersFit b n r
+  pub nothing : (rules1to6 b n ≡ accepted → ⊥) → (r .«headers_end» ≡ 0) × (r .entries ≡ 0)

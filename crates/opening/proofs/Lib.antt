@@ -1,0 +1,4 @@
+pub mod Roles
+pub mod States
+pub mod Described
+pub mod Opened

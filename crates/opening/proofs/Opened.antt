@@ -1,0 +1,86 @@
+-- The sixteen rules in the three parts that the code checks, and what opening answers at each.
+-- Assumes nothing.
+use Prim.Native.Nat.{ℕ, _+_, _*_, _≤_}
+use mathlib.Core.List.{List, [], _∷_}
+use mathlib.Core.Path.{_≡_, refl, sym, ap, _∙_, subst}
+use native.Mathlib.Omega.{arith}
+use lib.ListN.{length}
+use Rattle.layout.specs.Answer.{Answer, accepted, refused, _orElse_}
+use Rattle.layout.specs.Search.{firstRule}
+use Rattle.layout.specs.Entries.{headersEnd, directory}
+use Rattle.layout.specs.States.{statesOf, tallyOf}
+use Rattle.layout.specs.Rules.{headerRules, stateRules, verdict}
+use Rattle.layout.specs.Answers.{verdictIs}
+use Rattle.layout.specs.declared.Refusal.{Refusal}
+use Rattle.layout.specs.declared.Verdict.{Verdict}
+use Rattle.layout.specs.declared.Verdict.the-variants.{Accepted, Refused}
+use Rattle.layout.proofs.Laws.{orElse-assoc, orElse-accepted, accepted≢refused}
+use Rattle.header.specs.Checks.{rules1to6, HeaderChecked, HeadersFit}
+use Rattle.header.specs.declared.HeaderCheck.{HeaderCheck}
+use Rattle.directory.specs.Checks.{rules7to14, setsOf, setsFor, Headers, Checked}
+use Rattle.directory.specs.declared.Sets.{Sets}
+use Rattle.directory.specs.declared.DirectoryCheck.{DirectoryCheck}
+use Rattle.opening.specs.Opening.{Laid, closed, Opened}
+use Rattle.opening.specs.declared.Opening.{Opening}
+
+module _ (b : List ℕ) where
+  abbrev states : Answer
+  states = stateRules (directory b) (tallyOf (statesOf b (directory b)))
+
+  in-parts : verdict b ≡ (rules1to6 b (length b) orElse (rules7to14 b (length b) orElse states))
+  unfolding verdict firstRule headerRules rules1to6 rules7to14
+  in-parts = simp orElse-assoc
+
+  headers-in-parts : firstRule headerRules b (length b) ≡ (rules1to6 b (length b) orElse rules7to14 b (length b))
+  unfolding firstRule headerRules rules1to6 rules7to14
+  headers-in-parts = simp (orElse-assoc, orElse-accepted)
+
+  -- a refusal of the product
+  refuses : (r : Refusal) (x : Opening) → x ≡ closed r → refused (r .number) (r .place) (r .entry) ≡ verdict b → Opened b x
+  unfolding verdictIs
+  refuses r x q h = rw q (record { judged = h; end = λ a. absurd (accepted≢refused (sym (h ∙ a))); held = λ a. absurd (accepted≢refused (sym (h ∙ a))) })
+
+  told : (v : Verdict) (r : Refusal) (a : Answer) → v ≡ Refused r → verdictIs v ≡ a → a ≡ refused (r .number) (r .place) (r .entry)
+  unfolding verdictIs
+  told v r a q h = sym h ∙ rw q
+
+  passed : (v : Verdict) (a : Answer) → v ≡ Accepted → verdictIs v ≡ a → a ≡ accepted
+  unfolding verdictIs
+  passed v a q h = sym h ∙ rw q
+
+  module _ (header : HeaderCheck) (checked : HeaderChecked b (length b) header) where
+    pub header-refused : (r : Refusal) (x : Opening) → x ≡ closed r → header .verdict ≡ Refused r → Opened b x
+    header-refused r x q h = refuses r x q (sym (in-parts ∙ rw (told (header .verdict) r (rules1to6 b (length b)) h (checked .verdict-is))))
+
+    module _ (good : header .verdict ≡ Accepted) where
+      six : rules1to6 b (length b) ≡ accepted
+      six = passed (header .verdict) (rules1to6 b (length b)) good (checked .verdict-is)
+
+      fit : HeadersFit b (length b) header
+      fit = checked .headers six
+
+      pub headers : Headers b (header .«headers_end») (header .entries)
+      headers = record { ends = fit .end-is; all = fit .entries-are; most = fit .entries-most; room = fit .dsds-fit; inside = fit .inside }
+
+      module _ (found : DirectoryCheck) (listed : Checked b (length b) found) where
+        pub directory-refused : (r : Refusal) (x : Opening) → x ≡ closed r → found .verdict ≡ Refused r → Opened b x
+        directory-refused r x q h = refuses r x q (sym (in-parts ∙ rw (six, told (found .verdict) r (rules7to14 b (length b)) h (listed .verdict))))
+
+        module _ (fine : found .verdict ≡ Accepted) where
+          fourteen : rules7to14 b (length b) ≡ accepted
+          fourteen = passed (found .verdict) (rules7to14 b (length b)) fine (listed .verdict)
+
+          pub laid : Laid b (found .sets)
+          laid = record { rules = headers-in-parts ∙ rw (six, fourteen); held = listed .sets ∙ rw fourteen }
+
+          pub states-refused : (v : Verdict) (r : Refusal) (x : Opening) → x ≡ closed r → v ≡ Refused r → verdictIs v ≡ states → Opened b x
+          states-refused v r x q h j = refuses r x q (sym (in-parts ∙ rw (six, fourteen, told v r states h j)))
+
+          pub opened : (v : Verdict) → v ≡ Accepted → verdictIs v ≡ states → Opened b (record { verdict = Accepted; «headers_end» = header .«headers_end»; sets = found .sets })
+          unfolding verdictIs
+          opened v h j =
+              record {
+                judged = sym (in-parts ∙ rw (six, fourteen, passed v states h j));
+                end = λ a. fit .end-is;
+                held = λ a. laid .held;
+              }

@@ -1,0 +1,18 @@
+-- `opening::refused_opening` meets its contract.
+-- Assumes nothing.
+use mathlib.Core.Path.{_≡_}
+use borrow.Author.Needs.{needs}
+use Rattle.opening.proofs.refused_opening.Statement.{statement}
+use Rattle.opening.proofs.refused_opening.Tie as tie
+use Rattle.opening.proofs.refused_opening.Reads as reads
+use Rattle.opening.proofs.refused_opening.Lts as lts
+use Rattle.directory.proofs.Sets.none.Reads as none-reads
+
+none-requires : tie.Need-none-requires
+none-requires c κs = search needs
+
+returns : tie.Need-returns
+returns c = rw (c .none .ensures)
+
+pub refused-opening-spec : {M : Type 1} → statement M
+refused-opening-spec = tie.close (tie.spec none-requires returns)

@@ -1,0 +1,28 @@
+-- Rules 15 and 16 by the arrays of a directory.
+-- Assumes nothing.
+use Prim.Native.Nat.{ℕ, _-_}
+use mathlib.Core.Bool.{Bool, _&&_, not}
+use mathlib.Core.List.{List}
+use lib.Dec.{leb, eqb}
+use lib.ListN.{getD}
+use Rattle.layout.specs.Bytes.{within}
+use Rattle.layout.specs.Answer.{Answer, need}
+use Rattle.layout.specs.Search.{find}
+use Rattle.directory.specs.declared.Sets.{Sets}
+
+-- the role of entry i lies between two
+unfoldable pub roleWithin : List ℕ → ℕ → ℕ → ℕ → Bool
+roleWithin roles low high i = within low high (getD roles i 0)
+
+-- a variable set of this role, whose records, of which a tally has these counts and totals, do not fill it
+unfoldable pub unfilled : ℕ → ℕ → ℕ → List ℕ → List ℕ → Bool
+unfilled role count size tallied totals = within 1 4 role && not (eqb (getD tallied (role - 1) 0) count && eqb (getD totals (role - 1) 0) size)
+
+unfoldable pub unfilledAt : List ℕ → List ℕ → List ℕ → List ℕ → List ℕ → ℕ → Bool
+unfilledAt roles counts sizes tallied totals i = unfilled (getD roles i 0) (getD counts i 0) (getD sizes i 0) tallied totals
+
+-- rule 16 by the arrays: the first such set is refused
+unfoldable pub rule16By : Sets → List ℕ → List ℕ → Answer
+rule16By sets tallied totals =
+    let found = find (unfilledAt (sets .roles) (sets .counts) (sets .sizes) tallied totals) 0 (sets .entries) in
+    need (eqb found (sets .entries)) 16 (getD (sets .offsets) found 0) found

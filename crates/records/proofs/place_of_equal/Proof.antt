@@ -1,0 +1,66 @@
+-- `records::place_of_equal` meets its contract.
+-- Assumes nothing.
+use mathlib.Core.Path.{_≡_, sym, _∙_, ap}
+use native.Mathlib.Omega.{arith}
+use Rattle.layout.specs.Answers.{placeIs}
+use Rattle.records.proofs.Laws.{entries-few, no-record, record-inside, equal-record}
+use borrow.Author.Needs.{needs}
+use Rattle.records.proofs.place_of_equal.Statement.{statement}
+use Rattle.records.proofs.place_of_equal.Tie as tie
+use Rattle.records.proofs.place_of_equal.Reads as reads
+use Rattle.records.proofs.place_of_equal.Lts as lts
+use Rattle.layout.proofs.Place.refuse.Reads as refuse-reads
+
+mul-count : tie.Need-mul-count
+mul-count c = omega (arith, entries-few _ _ (c .before .before .pre .0))
+
+array-read-count : tie.Need-array-read-count
+array-read-count c = omega (arith, entries-few _ _ (c .before .before .pre .0))
+
+refuse-requires : tie.Need-refuse-requires
+refuse-requires c κs = search needs
+
+returns : tie.Need-returns
+returns c = c .refuse .ensures ∙ no-record _ _ (c .before .before .before .before .pre .0) _ (c .before .before .before .before .pre .1) (c .before .before .before .before .pre .2) _ (c .before .if1 .taken)
+
+mul-length : tie.Need-mul-length
+mul-length c = omega (arith, entries-few _ _ (c .before .before .before .before .before .pre .0))
+
+array-read-length : tie.Need-array-read-length
+array-read-length c = omega (arith, entries-few _ _ (c .before .before .before .before .before .pre .0))
+
+div-length : tie.Need-div-length
+div-length c = search needs
+
+mul-t10 : tie.Need-mul-t10
+mul-t10 c = omega (arith, entries-few _ _ (c .before .before .before .before .before .pre .0))
+
+array-read-t13 : tie.Need-array-read-t13
+array-read-t13 c = omega (arith, entries-few _ _ (c .before .before .before .before .before .pre .0))
+
+mul-t20 : tie.Need-mul-t20
+mul-t20 c = omega (arith, record-inside _ _ (c .before .before .before .before .before .pre .0) _ (c .before .before .before .before .before .pre .1) (c .before .before .before .before .before .pre .2) _ (c .before .before .if1 .left))
+
+add-t21 : tie.Need-add-t21
+add-t21 c = omega (arith, record-inside _ _ (c .before .before .before .before .before .pre .0) _ (c .before .before .before .before .before .pre .1) (c .before .before .before .before .before .pre .2) _ (c .before .before .if1 .left))
+
+returns-2 : tie.Need-returns-2
+unfolding placeIs
+returns-2 c = equal-record _ _ (c .before .before .before .before .before .pre .0) _ (c .before .before .before .before .before .pre .1) (c .before .before .before .before .before .pre .2) _ (c .before .before .if1 .left)
+
+pub place-of-equal-spec : {M : Type 1} → statement M
+place-of-equal-spec =
+    tie.close
+    (tie.spec
+    mul-count
+    array-read-count
+    refuse-requires
+    returns
+    mul-length
+    array-read-length
+    div-length
+    mul-t10
+    array-read-t13
+    mul-t20
+    add-t21
+    returns-2)
