@@ -286,6 +286,17 @@ module _ (b : List ℕ) (m : Sound b) where
       let f : sum (take (length ns) ns) ≡ extent (at (directory b) i) = rw (take-length ns) (filled-set b m i (h .0) full) in
       (full, (omega (arith, h .2), omega (arith, h .3, e, f)))
 
+  -- and in the product
+  pub record-inside : (i j : ℕ) → i < length (directory b) → j < length (lengths (statesIn b) (at (directory b) i))
+      → recordAt (statesIn b) (at (directory b) i) j + recordLength (statesIn b) (at (directory b) i) j ≤ length b
+  unfolding recordAt recordLength
+  record-inside i j l h =
+      let ns = lengths (statesIn b) (at (directory b) i) in
+      let full = has-bytes i j l h in
+      let e = ends ns j (length ns) h in
+      let f : sum (take (length ns) ns) ≡ extent (at (directory b) i) = rw (take-length ns) (filled-set b m i l full) in
+      omega (arith, e, f, m .inside i l full .1)
+
   same-entry : (p i k : ℕ) → i < length (directory b) → k < length (directory b) → Byte (at (directory b) i) p → Byte (at (directory b) k) p → k ≡ i
   same-entry p i k l n u v = go (lt-or-le i k) (lt-or-le k i)
     where

@@ -14,7 +14,7 @@ use Rattle.layout.specs.Answers.{verdictIs}
 use Rattle.layout.specs.declared.Refusal.{Refusal}
 use Rattle.layout.specs.declared.Verdict.{Verdict}
 use Rattle.layout.specs.declared.Verdict.the-variants.{Accepted, Refused}
-use Rattle.layout.proofs.Laws.{orElse-assoc, orElse-accepted, accepted≢refused}
+use Rattle.layout.proofs.Laws.{orElse-assoc, orElse-accepts, orElse-accepted, accepted≢refused}
 use Rattle.header.specs.Checks.{rules1to6, HeaderChecked, HeadersFit}
 use Rattle.header.specs.declared.HeaderCheck.{HeaderCheck}
 use Rattle.directory.specs.Checks.{rules7to14, setsOf, setsFor, Headers, Checked}
@@ -30,6 +30,10 @@ module _ (b : List ℕ) where
   in-parts : verdict b ≡ (rules1to6 b (length b) orElse (rules7to14 b (length b) orElse states))
   unfolding verdict firstRule headerRules rules1to6 rules7to14
   in-parts = simp orElse-assoc
+
+  -- what read_header and the rules below rest on
+  pub first-six : verdict b ≡ accepted → rules1to6 b (length b) ≡ accepted
+  first-six h = orElse-accepts (rules1to6 b (length b)) (rules7to14 b (length b) orElse states) .0 (sym in-parts ∙ h) .0
 
   headers-in-parts : firstRule headerRules b (length b) ≡ (rules1to6 b (length b) orElse rules7to14 b (length b))
   unfolding firstRule headerRules rules1to6 rules7to14

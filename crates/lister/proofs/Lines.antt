@@ -1,0 +1,82 @@
+-- The laws of the listing's lines: how the words that are put one after the other make a line.
+-- Assumes nothing.
+use Prim.Native.Nat.{ℕ, zero, suc, _+_}
+use mathlib.Core.Path.{_≡_, refl, ap, _∙_}
+use mathlib.Core.List.{List, [], _∷_, _++_, map, append-assoc, append-nil}
+use native.Mathlib.Nat.{add-zero, zero-add, add-suc, suc-add}
+use native.Mathlib.Numerals.{add-one}
+use lib.IntN.{ℤ, pos}
+use lib.ListN.{getD}
+use lib.Seq.{append-snoc}
+use borrow.Author.Tests.{eq-eqb, ne-eqb}
+use Rattle.layout.specs.Bytes.{bytes}
+use Rattle.layout.specs.Search.{upto, join}
+use Rattle.layout.specs.Listing.{decimal, signedDecimal, trimmed, lineOf}
+use Rattle.layout.specs.Answers.{verdictIs}
+use Rattle.layout.specs.declared.Directory.{Directory}
+use Rattle.layout.specs.declared.Refusal.{Refusal}
+use Rattle.layout.specs.declared.Verdict.{Verdict}
+use Rattle.lister.specs.declared.Listed.{Listed}
+use Rattle.lister.specs.Lines.{nameAt, listedOf, valueWords, entryText, entryTextAt, entryTexts, refusalText, acceptedText, listingOf}
+use Rattle.layout.specs.declared.Verdict.the-variants as cases
+
+-- what is put for a word and the byte behind it
+abbrev word : List ℕ → List ℕ
+word w = w ++ 32 ∷ []
+
+module _ (names : List ℕ) (e : Listed) where
+  pub values-line : (z : ℤ) → z ≡ e .«record_size» → (e .«ds_type» ∷ []) ++ ((32 ∷ []) ++ (word (trimmed (nameAt names (e .number))) ++ (word (decimal (e .offset)) ++ (word (decimal (e .size)) ++ (word (decimal (e .count)) ++ (signedDecimal z ++ 10 ∷ [])))))) ≡ lineOf (valueWords names e)
+  unfolding lineOf valueWords
+  values-line z h = rw h (simp append-snoc)
+
+  pub spare-line : e .«ds_type» ≡ 32 → (bytes "entry" ++ 32 ∷ []) ++ (word (decimal (e .number)) ++ (bytes "spare" ++ 10 ∷ [])) ≡ entryText names e
+  unfolding entryText lineOf
+  spare-line h = rw (eq-eqb (e .«ds_type») 32 h) (simp append-snoc)
+
+  pub named-line : (e .«ds_type» ≡ 32 → ⊥) → (bytes "entry" ++ 32 ∷ []) ++ (word (decimal (e .number)) ++ lineOf (valueWords names e)) ≡ entryText names e
+  unfolding entryText lineOf valueWords
+  named-line h = rw (ne-eqb (e .«ds_type») 32 h) (simp append-snoc)
+
+-- ---- all entries
+
+upto-more : (i n : ℕ) → upto i (suc n) ≡ upto i n ++ (i + n) ∷ []
+upto-more i zero = rw add-zero
+upto-more i (suc n) = ap (λ (l : List ℕ). i ∷ l) (upto-more (suc i) n ∙ rw (suc-add i n, add-suc i n))
+
+join-more : (f : ℕ → List ℕ) (l : List ℕ) (k : ℕ) → join (map f (l ++ k ∷ [])) ≡ join (map f l) ++ f k
+join-more f [] k = append-nil (f k)
+join-more f (x ∷ l) k = rw (join-more f l k, append-assoc)
+
+module _ (d : Directory) where
+  pub texts-none : entryTexts d 0 ≡ []
+  unfolding entryTexts
+  texts-none = refl
+
+  pub texts-more : (n : ℕ) → entryTexts d (n + 1) ≡ entryTexts d n ++ entryTextAt d n
+  unfolding entryTexts
+  texts-more n = ap (λ (l : List ℕ). join (map (entryTextAt d) l)) (ap (upto 0) (add-one n) ∙ upto-more 0 n ∙ ap (λ (k : ℕ). upto 0 n ++ k ∷ []) (zero-add n)) ∙ join-more (entryTextAt d) (upto 0 n) n
+
+  -- the line of what is read of entry i
+  pub read-line : (i : ℕ) (z : ℤ) → z ≡ getD (d .«record_sizes») i (pos 0)
+      → entryText (d .names) (record { number = i; «ds_type» = getD (d .types) i 0; offset = getD (d .offsets) i 0; size = getD (d .sizes) i 0; count = getD (d .counts) i 0; «record_size» = z }) ≡ entryTextAt d i
+  unfolding entryTextAt listedOf
+  read-line i z h = rw h
+
+-- ---- whole listings
+
+pub refusal-line : (n p e : ℕ) → (bytes "refused" ++ 32 ∷ []) ++ (word (decimal n) ++ (word (decimal p) ++ (decimal e ++ 10 ∷ []))) ≡ refusalText n p e
+unfolding refusalText lineOf
+refusal-line n p e = simp append-snoc
+
+pub accepted-lines : (n : ℕ) (d : Directory) → (bytes "size" ++ 32 ∷ []) ++ ((decimal n ++ 10 ∷ []) ++ (entryTexts d (d .entries) ++ (bytes "accepted" ++ 10 ∷ []))) ≡ acceptedText n d
+unfolding acceptedText lineOf
+accepted-lines n d = refl
+
+module _ (v : Verdict) (n : ℕ) (d : Directory) where
+  pub listing-accepted : v ≡ cases.Accepted → acceptedText n d ≡ listingOf (verdictIs v) n d
+  unfolding listingOf verdictIs
+  listing-accepted h = rw h
+
+  pub listing-refused : (r : Refusal) → v ≡ cases.Refused r → refusalText (r .number) (r .place) (r .entry) ≡ listingOf (verdictIs v) n d
+  unfolding listingOf verdictIs
+  listing-refused r h = rw h

@@ -1,0 +1,150 @@
+-- What an opened product gives to the calls: its refusal, or what each call goes by; and the parts that it hands out.
+-- Assumes nothing.
+use Prim.Native.Nat.{ℕ, zero, suc, _+_, _*_, _-_, _≤_, _<_}
+use mathlib.Core.Bool.{Bool, true, false}
+use mathlib.Core.List.{List, []}
+use mathlib.Core.Path.{_≡_, refl, sym, ap, _∙_, subst}
+use native.Mathlib.Omega.{arith}
+use lib.Dec.{T, ltb, ltb→lt}
+use lib.ListN.{length, take, drop}
+use Rattle.layout.specs.Bytes.{part}
+use Rattle.layout.specs.Answer.{Answer, accepted, refused, need, Reply, refusal, is, _orElse_, _else_, _before_}
+use Rattle.layout.specs.Entries.{headersEnd, entries, dsdAt, directory, at}
+use Rattle.layout.specs.States.{statesOf}
+use Rattle.layout.specs.Rules.{verdict}
+use Rattle.layout.specs.Records.{Span, lengths, recordAt, recordLength, recordPart, recordRefusal, recordPlace, sphPlace, partOf}
+use Rattle.layout.specs.Fields.{Value, Position, recordOf, fieldIn, fieldReply, pointIn, pointReply}
+use Rattle.layout.specs.Answers.{verdictIs, placeIs}
+use Rattle.layout.specs.declared.Refusal.{Refusal}
+use Rattle.layout.specs.declared.Verdict.the-variants.{Accepted, Refused}
+use Rattle.layout.specs.declared.Place.{Place}
+use Rattle.layout.specs.declared.Place.the-variants as places
+use Rattle.layout.proofs.Laws.{accepted≢refused, orElse-accepts, need-accepts}
+use Rattle.layout.proofs.Sound.{Sound, sound, length-directory}
+use Rattle.layout.proofs.Whole.{record-inside}
+use Rattle.directory.specs.Checks.{setsOf, Headers}
+use Rattle.opening.specs.Opening.{Opened}
+use Rattle.opening.specs.declared.Opening.{Opening}
+use Rattle.records.specs.Open.{Open}
+use Rattle.records.proofs.Laws.{entries-few, entries-held}
+
+module _ (b : List ℕ) (o : Opening) (opened : Opened b o) where
+  pub is-refused : (r : Refusal) → o .verdict ≡ Refused r → verdict b ≡ refused (r .number) (r .place) (r .entry)
+  unfolding verdictIs
+  is-refused r h = sym (opened .judged) ∙ rw h
+
+  pub is-accepted : o .verdict ≡ Accepted → verdict b ≡ accepted
+  unfolding verdictIs
+  is-accepted h = sym (opened .judged) ∙ rw h
+
+  module _ (a : verdict b ≡ accepted) where
+    pub now-open : Open b (o .sets)
+    now-open = record { accepts = a; held = opened .held a }
+
+    all-entries : o .sets .entries ≡ entries b
+    all-entries = entries-held b (o .sets) now-open ∙ length-directory b
+
+    room : 1247 + 280 * entries b ≤ headersEnd b
+    unfolding headersEnd
+    room = let d = sound b a .dsds in omega arith
+
+    pub now-headers : Headers b (o .«headers_end») (o .sets .entries)
+    now-headers = record {
+      ends = opened .end a;
+      all = all-entries;
+      most = entries-few b (o .sets) now-open;
+      room = omega (arith, opened .end a, all-entries, room);
+      inside = omega (arith, opened .end a, sound b a .headers);
+    }
+
+    pub lines-are : o .«headers_end» - 1247 - 280 * o .sets .entries ≡ dsdAt b 0 - 1247
+    unfolding dsdAt
+    lines-are = omega (arith, opened .end a, all-entries, room)
+
+-- ---- places and parts
+
+refusal≢is : {A : Type 0} (n p e : ℕ) (x : A) → refusal n p e ≡ is x → ⊥
+refusal≢is n p e x h = let z : _≡_ {A = ℕ} 0 1 = cc in omega arith
+
+-- an answer that hands out a value accepts, and the value is its own
+else-is : {A : Type 0} (a : Answer) (x y : A) → (a else x) ≡ is y → (a ≡ accepted) × (x ≡ y)
+else-is accepted x y h = (refl, cc)
+else-is (refused n p e) x y h = absurd (refusal≢is n p e y h)
+
+else-refusal : {A : Type 0} (a : Answer) (x : A) (n p e : ℕ) → (a else x) ≡ refusal n p e → a ≡ refused n p e
+else-refusal accepted x n p e h = absurd (refusal≢is n p e x (sym h))
+else-refusal (refused n' p' e') x n p e h = cc
+
+-- the span lies in the product
+abbrev Within : List ℕ → Reply Span → Type 0
+Within b a = (s : Span) → a ≡ is s → s .place + s .length ≤ length b
+
+pub sph-within : (b : List ℕ) → Within b (sphPlace b)
+unfolding sphPlace dsdAt headersEnd
+sph-within b s h =
+    let r = else-is (verdict b) (record { place = 1247; length = dsdAt b 0 - 1247 }) s h in
+    let m = sound b (r .0) in
+    let p = ap (λ (x : Span). x .place + x .length) (r .1) in
+    omega (arith, p, m .headers, m .dsds)
+
+module _ (b : List ℕ) (i j : ℕ) where
+  abbrev span : Span
+  span = record { place = recordAt (statesOf b (directory b)) (at (directory b) i) j; length = recordLength (statesOf b (directory b)) (at (directory b) i) j }
+
+  place-span : recordPlace b i j ≡ (recordRefusal b i j else span)
+  unfolding recordPlace
+  place-span = refl
+
+  there : recordRefusal b i j ≡ accepted → (verdict b ≡ accepted) × ((i < length (directory b)) × (j < length (lengths (statesOf b (directory b)) (at (directory b) i))))
+  unfolding recordRefusal
+  there h =
+      let r = simp (orElse-accepts, need-accepts) at h in
+      (r .0, (ltb→lt i (length (directory b)) (r .1 .0), ltb→lt j (length (lengths (statesOf b (directory b)) (at (directory b) i))) (r .1 .1)))
+
+  pub record-within : Within b (recordPlace b i j)
+  record-within s h =
+      let r = else-is (recordRefusal b i j) span s (sym place-span ∙ h) in
+      let t = there (r .0) in
+      let p = ap (λ (x : Span). x .place + x .length) (r .1) in
+      omega (arith, p, record-inside b (sound b (t .0)) i j (t .1 .0) (t .1 .1))
+
+  -- the record that a place gives is layout's, and a refusal of the place is the field's
+  pub record-there : (s : Span) → recordPlace b i j ≡ is s → (recordRefusal b i j ≡ accepted) × (recordOf b i j ≡ part b (s .place) (s .length))
+  unfolding recordOf recordPart
+  record-there s h = let r = else-is (recordRefusal b i j) span s (sym place-span ∙ h) in (r .0, ap (λ (x : Span). part b (x .place) (x .length)) (r .1))
+
+  pub record-refused : (n p e : ℕ) → recordPlace b i j ≡ refusal n p e → recordRefusal b i j ≡ refused n p e
+  record-refused n p e h = else-refusal (recordRefusal b i j) span n p e (sym place-span ∙ h)
+
+-- what a place is
+module _ (b : List ℕ) (r : Place) (a : Reply Span) (answered : placeIs r ≡ a) where
+  pub at-place : (p n : ℕ) → r ≡ places.At p n → a ≡ is (record { place = p; length = n })
+  unfolding placeIs
+  at-place p n h = sym answered ∙ rw h
+
+  pub no-place : (x : Refusal) → r ≡ places.Refused x → a ≡ refusal (x .number) (x .place) (x .entry)
+  unfolding placeIs
+  no-place x h = sym answered ∙ rw h
+
+  pub in-product : Within b a → (p n : ℕ) → r ≡ places.At p n → p + n ≤ length b
+  in-product w p n h = w (record { place = p; length = n }) (at-place p n h)
+
+  pub part-is : (p n : ℕ) → r ≡ places.At p n → take (p + n - p) (drop p b) ≡ partOf b a
+  unfolding partOf part
+  part-is p n h = let q : p + n - p ≡ n = omega arith in rw (at-place p n h, q)
+
+  pub no-part : (x : Refusal) → r ≡ places.Refused x → [] ≡ partOf b a
+  unfolding partOf
+  no-part x h = rw (no-place x h)
+
+-- what a call reads of a record: the part that is there, or the place's refusal
+module _ {A : Type 0} (b : List ℕ) (i j : ℕ) (r : Place) (answered : placeIs r ≡ recordPlace b i j) where
+  pub reads-record : (F : List ℕ → Reply A) (p n : ℕ) → r ≡ places.At p n → F (take (p + n - p) (drop p b)) ≡ (recordRefusal b i j before F (recordOf b i j))
+  unfolding part
+  reads-record F p n h =
+      let t = record-there b i j (record { place = p; length = n }) (at-place b r (recordPlace b i j) answered p n h) in
+      let q : p + n - p ≡ n = omega arith in
+      rw (t .0, t .1, q)
+
+  pub reads-nothing : (x : Refusal) (y : Reply A) → r ≡ places.Refused x → refusal (x .number) (x .place) (x .entry) ≡ (recordRefusal b i j before y)
+  reads-nothing x y h = rw (record-refused b i j (x .number) (x .place) (x .entry) (no-place b r (recordPlace b i j) answered x h))

@@ -1,0 +1,51 @@
+-- `product::header_values` meets its contract.
+-- Assumes nothing.
+use mathlib.Core.Path.{_≡_, sym, ap, _∙_}
+use native.Mathlib.Omega.{arith}
+use Rattle.layout.specs.Answers.{verdictIs, placeIs, fieldAnswerIs, pointAnswerIs, headerFor, directoryFor}
+use Rattle.header.proofs.Rules.{long-enough, total-fits}
+use Rattle.opening.proofs.Opened.{first-six}
+use Rattle.product.proofs.Calls.{is-refused, is-accepted}
+use borrow.Author.Needs.{needs}
+use Rattle.product.proofs.header_values.Statement.{statement}
+use Rattle.product.proofs.header_values.Tie as tie
+use Rattle.product.proofs.header_values.Reads as reads
+use Rattle.product.proofs.header_values.Lts as lts
+use Rattle.header.proofs.read_header.Reads as read-header-reads
+use Rattle.layout.proofs.MainHeader.none.Reads as none-reads
+use Rattle.opening.proofs.open_product.Reads as open-product-reads
+
+open-product-requires : tie.Need-open-product-requires
+open-product-requires c κs = search needs
+
+enum-known-verdict : tie.Need-enum-known-verdict
+enum-known-verdict c = search needs
+
+none-requires : tie.Need-none-requires
+none-requires c κs = search needs
+
+returns : tie.Need-returns
+unfolding verdictIs
+returns c = (sym (is-refused _ _ (c .before .before .before .before .open-product .ensures) _ (c .before .before .verdict .given .1)), c .none .ensures ∙ ap (λ a. headerFor a (c .before .before .before .before .before .before .args .p .now)) (sym (is-refused _ _ (c .before .before .before .before .open-product .ensures) _ (c .before .before .verdict .given .1))))
+
+enum-told : tie.Need-enum-told
+enum-told c = search needs
+
+read-header-requires : tie.Need-read-header-requires
+read-header-requires c κs = let s = first-six _ (is-accepted _ _ (c .before .before .open-product .ensures) (c .enum-told .given .1)) in (long-enough _ _ s, total-fits _ _ s)
+
+returns-2 : tie.Need-returns-2
+unfolding verdictIs
+returns-2 c = (sym (is-accepted _ _ (c .before .before .before .open-product .ensures) (c .before .enum-told .given .1)), c .read-header .ensures ∙ ap (λ a. headerFor a (c .before .before .before .before .before .args .p .now)) (sym (is-accepted _ _ (c .before .before .before .open-product .ensures) (c .before .enum-told .given .1))))
+
+pub header-values-spec : {M : Type 1} → statement M
+header-values-spec =
+    tie.close
+    (tie.spec
+    open-product-requires
+    enum-known-verdict
+    none-requires
+    returns
+    enum-told
+    read-header-requires
+    returns-2)

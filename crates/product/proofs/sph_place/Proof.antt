@@ -1,0 +1,52 @@
+-- `product::sph_place` meets its contract.
+-- Assumes nothing.
+use mathlib.Core.Path.{_≡_, sym, ap, _∙_}
+use native.Mathlib.Omega.{arith}
+use Rattle.layout.specs.Answers.{verdictIs, placeIs, fieldAnswerIs, pointAnswerIs, headerFor, directoryFor}
+use Rattle.layout.specs.Records.{sphPlace}
+use Rattle.product.proofs.Calls.{is-refused, is-accepted, now-headers, lines-are}
+use borrow.Author.Needs.{needs}
+use Rattle.product.proofs.sph_place.Statement.{statement}
+use Rattle.product.proofs.sph_place.Tie as tie
+use Rattle.product.proofs.sph_place.Reads as reads
+use Rattle.product.proofs.sph_place.Lts as lts
+use Rattle.opening.proofs.open_product.Reads as open-product-reads
+
+open-product-requires : tie.Need-open-product-requires
+open-product-requires c κs = search needs
+
+enum-known-verdict : tie.Need-enum-known-verdict
+enum-known-verdict c = search needs
+
+returns : tie.Need-returns
+unfolding placeIs sphPlace
+returns c = sym (rw (is-refused _ _ (c .before .before .before .open-product .ensures) _ (c .before .verdict .given .1)))
+
+enum-told : tie.Need-enum-told
+enum-told c = search needs
+
+sub-lines : tie.Need-sub-lines
+sub-lines c = let h = now-headers _ _ (c .before .before .before .before .open-product .ensures) (is-accepted _ _ (c .before .before .before .before .open-product .ensures) (c .before .before .enum-told .given .1)) in omega (arith, h .room)
+
+mul-lines : tie.Need-mul-lines
+mul-lines c = let h = now-headers _ _ (c .before .before .before .before .before .open-product .ensures) (is-accepted _ _ (c .before .before .before .before .before .open-product .ensures) (c .before .before .before .enum-told .given .1)) in omega (arith, h .most)
+
+sub-lines-2 : tie.Need-sub-lines-2
+sub-lines-2 c = let h = now-headers _ _ (c .before .before .before .before .before .open-product .ensures) (is-accepted _ _ (c .before .before .before .before .before .open-product .ensures) (c .before .before .before .enum-told .given .1)) in omega (arith, h .room)
+
+returns-2 : tie.Need-returns-2
+unfolding placeIs sphPlace
+returns-2 c = sym (rw (is-accepted _ _ (c .before .before .before .before .before .open-product .ensures) (c .before .before .before .enum-told .given .1), lines-are _ _ (c .before .before .before .before .before .open-product .ensures) (is-accepted _ _ (c .before .before .before .before .before .open-product .ensures) (c .before .before .before .enum-told .given .1))))
+
+pub sph-place-spec : {M : Type 1} → statement M
+sph-place-spec =
+    tie.close
+    (tie.spec
+    open-product-requires
+    enum-known-verdict
+    returns
+    enum-told
+    sub-lines
+    mul-lines
+    sub-lines-2
+    returns-2)

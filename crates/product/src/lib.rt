@@ -1,0 +1,154 @@
+// The public calls. Each judges the product first, has no `requires`, and its promise is layout's definition on every input.
+ghost use mathlib.Core.Path.{_≡_};
+ghost use Rattle.layout.specs.Answers.{verdictIs, placeIs, fieldAnswerIs, pointAnswerIs, headerFor, directoryFor};
+ghost use Rattle.layout.specs.Rules.{verdict};
+ghost use Rattle.layout.specs.Records.{sphPlace, recordPlace, partOf};
+ghost use Rattle.layout.specs.Fields.{fieldReply, pointReply};
+use layout::Directory;
+use layout::DirectoryAnswer;
+use layout::FieldAnswer;
+use layout::HeaderAnswer;
+use layout::MainHeader;
+use layout::Place;
+use layout::PointAnswer;
+use layout::Verdict;
+
+// Accepted, or refused with number, place and entry.
+pub fn judge(p: &[u8]) -> Verdict
+    ensures { λ r. ⌜ verdictIs r ≡ verdict (now (p .entry)) ⌝ }
+{
+    let opened = opening::open_product(p);
+    opened.verdict
+}
+
+// The directory beside the verdict.
+pub fn open_directory(p: &[u8]) -> DirectoryAnswer
+    ensures judged { λ r. ⌜ verdictIs (r .verdict) ≡ verdict (now (p .entry)) ⌝ }
+    ensures listed { λ r. ⌜ r .directory ≡ directoryFor (verdict (now (p .entry))) (now (p .entry)) ⌝ }
+{
+    let opened = opening::open_product(p);
+    let verdict = opened.verdict;
+    if let Verdict::Refused(refusal) = verdict {
+        return DirectoryAnswer {
+            verdict: Verdict::Refused(refusal),
+            directory: Directory::none(),
+        };
+    }
+    let sets = opened.sets;
+    DirectoryAnswer {
+        verdict: Verdict::Accepted,
+        directory: directory::read_directory(p, opened.headers_end, sets),
+    }
+}
+
+// The 34 values of the main header beside the verdict.
+pub fn header_values(p: &[u8]) -> HeaderAnswer
+    ensures judged { λ r. ⌜ verdictIs (r .verdict) ≡ verdict (now (p .entry)) ⌝ }
+    ensures valued { λ r. ⌜ r .header ≡ headerFor (verdict (now (p .entry))) (now (p .entry)) ⌝ }
+{
+    let opened = opening::open_product(p);
+    let verdict = opened.verdict;
+    if let Verdict::Refused(refusal) = verdict {
+        return HeaderAnswer {
+            verdict: Verdict::Refused(refusal),
+            header: MainHeader::none(),
+        };
+    }
+    HeaderAnswer {
+        verdict: Verdict::Accepted,
+        header: header::read_header(p),
+    }
+}
+
+// Where the SPH lines stand: all bytes of the SPH before the DSDs.
+pub fn sph_place(p: &[u8]) -> Place
+    ensures { λ r. ⌜ placeIs r ≡ sphPlace (now (p .entry)) ⌝ }
+{
+    let opened = opening::open_product(p);
+    let verdict = opened.verdict;
+    if let Verdict::Refused(refusal) = verdict {
+        return Place::Refused(refusal);
+    }
+    let sets = opened.sets;
+    let lines = opened.headers_end - MainHeader::SIZE - directory::Entry::SIZE * sets.entries;
+    Place::At {
+        place: MainHeader::SIZE as u64,
+        length: lines as u64,
+    }
+}
+
+// The SPH lines, or the empty part.
+pub fn sph_part(p: &[u8]) -> &[u8]
+    ensures { λ r. ⌜ now r ≡ partOf (now (p .entry)) (sphPlace (now (p .entry))) ⌝ }
+{
+    match sph_place(p) {
+        Place::At { place, length } => {
+            let start = place as usize;
+            let end = start + length as usize;
+            &p[start..end]
+        }
+        Place::Refused(_) => &p[..0],
+    }
+}
+
+// Where a record of an entry stands.
+pub fn record_place(p: &[u8], entry: usize, asked: usize) -> Place
+    ensures { λ r. ⌜ placeIs r ≡ recordPlace (now (p .entry)) entry asked ⌝ }
+{
+    let opened = opening::open_product(p);
+    let verdict = opened.verdict;
+    if let Verdict::Refused(refusal) = verdict {
+        return Place::Refused(refusal);
+    }
+    let sets = opened.sets;
+    records::place_of_record(p, sets, entry, asked)
+}
+
+// The record, or the empty part.
+pub fn record_part(p: &[u8], entry: usize, asked: usize) -> &[u8]
+    ensures { λ r. ⌜ now r ≡ partOf (now (p .entry)) (recordPlace (now (p .entry)) entry asked) ⌝ }
+{
+    match record_place(p, entry, asked) {
+        Place::At { place, length } => {
+            let start = place as usize;
+            let end = start + length as usize;
+            &p[start..end]
+        }
+        Place::Refused(_) => &p[..0],
+    }
+}
+
+// A field of a record, by its offset in the record and its kind.
+pub fn field_at(p: &[u8], entry: usize, asked: usize, offset: usize, kind: u8) -> FieldAnswer
+    ensures { λ r. ⌜ fieldAnswerIs r ≡ fieldReply (now (p .entry)) entry asked offset kind ⌝ }
+{
+    match record_place(p, entry, asked) {
+        Place::At { place, length } => {
+            let start = place as usize;
+            let end = start + length as usize;
+            fields::field_in(&p[start..end], entry, offset, kind)
+        }
+        Place::Refused(refusal) => FieldAnswer::Refused(refusal),
+    }
+}
+
+// The point at three offsets in a record.
+pub fn point_at(
+    p: &[u8],
+    entry: usize,
+    asked: usize,
+    latitude: usize,
+    longitude: usize,
+    altitude: usize,
+) -> PointAnswer
+    ensures { λ r. ⌜ pointAnswerIs r ≡ pointReply (now (p .entry)) entry asked latitude longitude altitude ⌝ }
+{
+    match record_place(p, entry, asked) {
+        Place::At { place, length } => {
+            let start = place as usize;
+            let end = start + length as usize;
+            fields::point_in(&p[start..end], entry, latitude, longitude, altitude)
+        }
+        Place::Refused(refusal) => PointAnswer::Refused(refusal),
+    }
+}
