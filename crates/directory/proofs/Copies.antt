@@ -2,15 +2,15 @@
 -- Assumes nothing.
 use Prim.Native.Nat.{ℕ, zero, suc, _+_, _*_, _-_, _≤_, _<_}
 use mathlib.Core.List.{List, [], _∷_, _++_, map, map-append, append-nil, append-assoc}
-use mathlib.Core.Path.{_≡_, refl, sym, ap, _∙_, subst}
+use mathlib.Core.Path.{_≡_, sym, ap, _∙_}
 use native.Mathlib.Omega.{arith}
 use native.Mathlib.Nat.{sub-zero}
 use native.Mathlib.Numerals.{add-one}
 use lib.ListN.{length, take, drop, getD, set, replicate, length-drop, length-append, length-replicate}
-use lib.Seq.{getD-take, getD-drop, length-take-le, take-all, take-at, drop-append-add, drop-nil, paste, paste-suc, length-paste}
+use lib.Seq.{getD-take, getD-drop, length-take-le, take-all, take-at, drop-append-add, paste, paste-suc, length-paste}
 use Rattle.layout.specs.Bytes.{part}
 use Rattle.layout.specs.Search.{join}
-use Rattle.layout.specs.Entries.{Entry, entries, dsdAt, dsdBytes, entryOf, entryAt, directory}
+use Rattle.layout.specs.Entries.{Entry, entries, dsdBytes, entryOf, entryAt, directory}
 use Rattle.layout.specs.Answers.{padded, nameOf, filenameOf, directoryOf}
 use Rattle.layout.specs.declared.Directory.{Directory}
 use Rattle.directory.specs.Checks.{entriesTo, setsOf, Dsds}

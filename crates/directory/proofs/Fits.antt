@@ -1,11 +1,11 @@
 -- The turns of rule 10's test on one entry, and what the view of a held entry shows of its name.
 -- Assumes nothing.
-use Prim.Native.Nat.{ℕ, _*_, _≤_, _<_}
-use mathlib.Core.Bool.{Bool, true, false, cond, _&&_, _||_, not, and-true, and-false, or-true, or-false}
+use Prim.Native.Nat.{ℕ, _≤_, _<_}
+use mathlib.Core.Bool.{Bool, true, false, cond, _&&_, _||_, not, and-true, and-false}
 use mathlib.Core.Logic.{_⊎_, inl, inr}
-use mathlib.Core.Path.{_≡_, refl, sym, ap, _∙_}
+use mathlib.Core.Path.{_≡_, refl, sym, _∙_}
 use native.Mathlib.Omega.{arith}
-use lib.Dec.{leb, ltb, eqb}
+use lib.Dec.{ltb, eqb}
 use lib.IntN.{pos, negsuc}
 use lib.Signed.{leZ, ltZ}
 use borrow.Author.Tests.{eq-eqb, ne-eqb, lt-ltb, le-ltb, le-leb, lt-leb}
@@ -13,7 +13,7 @@ use Rattle.layout.specs.Bytes.{bytes}
 use Rattle.layout.specs.Text.{whole}
 use Rattle.layout.specs.Entries.{Entry, eqZ, called, kindOf, isData, isReference, allZero, inRange, isFixed, isVariable, isStates, setFits, numbersFit}
 use Rattle.layout.proofs.Laws.{lt-or-le}
-use Rattle.directory.specs.Held.{nameRole, nameText, numberFrom, viewOf, roleOf}
+use Rattle.directory.specs.Held.{nameText, numberFrom, viewOf, roleOf}
 use Rattle.directory.specs.declared.Entry.{Entry as HeldEntry}
 use Rattle.directory.proofs.Numbers.{is-zero, above, from-one, plus, both-pass, is-minus-one}
 use Rattle.directory.proofs.Names.{kind-role, states-role, role-text}

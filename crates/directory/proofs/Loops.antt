@@ -3,7 +3,6 @@
 use Prim.Native.Nat.{ℕ, zero, suc, _+_, _*_, _-_, _≤_, _<_}
 use mathlib.Core.Bool.{Bool, true, false, cond}
 use mathlib.Core.List.{List, [], _∷_, _++_, map, map-append}
-use mathlib.Core.Logic.{_⊎_, inl, inr}
 use mathlib.Core.Path.{_≡_, refl, sym, ap, _∙_}
 use native.Mathlib.Omega.{arith}
 use native.Mathlib.Nat.{add-zero, zero-add, add-assoc, sub-zero}
@@ -15,7 +14,7 @@ use lib.Seq.{append-snoc, set-at}
 use borrow.Author.Tests.{eq-eqb, ne-eqb, ltb-true, ltb-false}
 use Rattle.layout.specs.Answer.{Answer, accepted, refused, _orElse_, need}
 use Rattle.layout.specs.Search.{first, count, upto}
-use Rattle.layout.specs.Entries.{Entry, entries, entryAt, directory, at, start, extent, isCounted}
+use Rattle.layout.specs.Entries.{Entry, entries, entryAt, directory, start, extent, isCounted}
 use Rattle.layout.specs.Rules.{isCountedAt}
 use Rattle.layout.specs.Answers.{padded, typeOf, countOf, recordSizeOf}
 use Rattle.layout.proofs.Laws.{orElse-assoc, orElse-accepted, first-step}

@@ -1,10 +1,10 @@
 -- The names that rules 10, 15 and 16 ask for: a name's role, and a name of a role.
 -- Assumes nothing.
 use Prim.Native.Nat.{ℕ, zero, suc, _+_, _-_, _≤_, _<_}
-use mathlib.Core.Bool.{Bool, true, false, cond, _&&_, not, and-false}
+use mathlib.Core.Bool.{Bool, true, false, cond, _&&_, not}
 use mathlib.Core.List.{List, [], _∷_}
 use mathlib.Core.Logic.{⊎-elim}
-use mathlib.Core.Path.{_≡_, refl, sym, ap, _∙_}
+use mathlib.Core.Path.{_≡_, refl, sym, _∙_}
 use native.Mathlib.Omega.{arith}
 use native.Mathlib.Nat.{add-zero}
 use native.Mathlib.Numerals.{add-one}
@@ -14,7 +14,7 @@ use lib.Seq.{drop-cons, drop-length}
 use borrow.Author.Tests.{eq-eqb, ne-eqb, eqb-true, eqb-false, lt-ltb, le-ltb}
 use Rattle.layout.specs.Bytes.{bytes, part, byteAt}
 use Rattle.layout.specs.Search.{find}
-use Rattle.layout.specs.Entries.{Entry, called, kindOf, isStates}
+use Rattle.layout.specs.Entries.{Entry, called, kindOf}
 use Rattle.layout.proofs.Laws.{lt-or-le}
 use Rattle.text.specs.Blanks.{notBlank}
 use Rattle.text.proofs.Parts.{part-cons, part-end}

@@ -3,20 +3,19 @@
 use Prim.Native.Nat.{ℕ, zero, suc, _+_, _*_, _-_, _≤_, _<_, suc-le-suc}
 use mathlib.Core.Bool.{Bool, true, false, cond}
 use mathlib.Core.List.{List, [], _∷_}
-use mathlib.Core.Path.{_≡_, refl, sym, ap, _∙_}
+use mathlib.Core.Path.{_≡_, sym, ap, _∙_}
 use native.Mathlib.Omega.{arith}
-use native.Mathlib.Nat.{le-trans, not-suc-le-zero}
-use lib.Dec.{eqb, lit≤, lit<}
+use native.Mathlib.Nat.{le-trans}
+use lib.Dec.{eqb, lit≤}
 use lib.ListN.{length, take, drop, getD, length-drop}
 use lib.Seq.{drop-drop, getD-take, getD-drop, length-take-le}
 use Rattle.layout.specs.Bytes.{part, byteAt}
-use Rattle.layout.specs.Text.{Number, lineClasses, valueClasses, valueWidth, quoteWidth, placeOf, widthOf, valueOf, digits, numberOf}
+use Rattle.layout.specs.Text.{lineClasses, valueClasses, valueWidth, quoteWidth, placeOf, widthOf, valueOf, digits, numberOf}
 use Rattle.layout.specs.Lines.{dsd}
 use Rattle.layout.specs.Entries.{Entry, entryOf}
 use Rattle.layout.proofs.Agree.{part-of-take}
 use Rattle.text.specs.Numbers.{capped, numberIn}
 use Rattle.text.specs.declared.Number.{Number as HeldNumber}
-use Rattle.directory.specs.declared.Entry.{Entry as HeldEntry}
 use Rattle.directory.specs.Held.{nameRole, heldOf, Read}
 
 -- ---- places

@@ -1,19 +1,18 @@
 -- What is held of an entry against the entry itself, where rule 9 holds of it: one turn of the loop that reads the directory.
 -- Assumes nothing.
 use Prim.Native.Nat.{ℕ, _+_, _*_, _-_, _≤_, _<_}
-use mathlib.Core.Bool.{Bool, true, false, cond, _&&_, not}
+use mathlib.Core.Bool.{Bool, true, false, cond}
 use mathlib.Core.List.{List, []}
 use mathlib.Core.Logic.{_⊎_, inl, inr}
 use mathlib.Core.Path.{_≡_, refl, sym, ap, _∙_, subst}
 use native.Mathlib.Omega.{arith}
-use lib.Dec.{leb, ltb, eqb}
-use lib.IntN.{ℤ}
+use lib.Dec.{leb, eqb}
 use borrow.Author.Tests.{eq-eqb, ne-eqb, le-leb, lt-leb, leb-true}
 use Rattle.layout.specs.Bytes.{bytes, part}
 use Rattle.layout.specs.Text.{whole, layout}
-use Rattle.layout.specs.Answer.{Answer, accepted, refused, _orElse_, need}
+use Rattle.layout.specs.Answer.{accepted, refused, _orElse_, need}
 use Rattle.layout.specs.Search.{laidOut}
-use Rattle.layout.specs.Entries.{Entry, most, headersEnd, entries, dsdAt, dsdBytes, entryOf, entryAt, called, start, extent, kindOf, isData, isCounted, isReference, isVariable, isStates, allZero, inRange, isFixed, setFits, numbersFit}
+use Rattle.layout.specs.Entries.{Entry, most, dsdAt, dsdBytes, entryOf, entryAt, called, start, extent, kindOf, isData, isCounted, isReference, isVariable, isStates, allZero, inRange, isFixed, setFits, numbersFit}
 use Rattle.layout.specs.Answers.{typeOf, countOf, recordSizeOf}
 use Rattle.layout.specs.Rules.{linesOf, rule8At, rule9At, rule10At}
 use Rattle.layout.proofs.Laws.{lt-or-le}

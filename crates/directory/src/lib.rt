@@ -3,7 +3,7 @@ ghost use mathlib.Core.Path.{_≡_};
 ghost use mathlib.Core.Bool.{true, not, cond};
 ghost use Prim.Native.Nat.{ℕ, _+_, _*_, _-_, _≤_, _<_};
 ghost use lib.Dec.{ltb, eqb};
-ghost use lib.IntN.{pos, negsuc};
+ghost use lib.IntN.{pos};
 ghost use lib.ListN.{length};
 ghost use lib.Seq.{paste};
 ghost use mathlib.Core.List.{List, map};
@@ -15,7 +15,7 @@ ghost use Rattle.layout.specs.Rules.{rule7, rule8At, rule8, rule12At, rule13At,
 ghost use Rattle.layout.specs.Search.{first, join};
 ghost use Rattle.layout.specs.Text.{whole};
 ghost use Rattle.sets.specs.Sets.{Held};
-ghost use Rattle.directory.specs.Checks.{together, setsOf, noSets, entriesTo, Headers, Dsds, ReadAll, Checked};
+ghost use Rattle.directory.specs.Checks.{together, setsOf, noSets, Headers, Dsds, ReadAll, Checked};
 ghost use Rattle.directory.specs.Held.{nameRole, numberFrom, viewOf, Read, overPlace, roleOf};
 
 // The 28 bytes from `start` on are this name, padded with blanks.

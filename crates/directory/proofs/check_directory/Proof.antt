@@ -1,13 +1,40 @@
--- `directory::check_directory` meets its contract.
+-- `directory::check_directory` meets its contract: the first check that refuses decides, and where all accept the numbers read are the directory's.
 -- Assumes nothing.
 use Prim.Native.Nat.{_*_, _-_}
-use mathlib.Core.Path.{sym, ap, _∙_, refl}
+use mathlib.Core.Path.{_≡_, sym, ap, _∙_, refl}
 use native.Mathlib.Omega.{arith}
+use Rattle.layout.specs.Answer.{accepted, _orElse_}
 use Rattle.layout.specs.Answers.{verdictIs}
+use Rattle.layout.specs.Rules.{rule7, rule8, rule9, rule10, rule11, rule12, rule13, rule14}
 use Rattle.directory.proofs.Rules.{dsds-of, stopped, stop-text, stop-over, stop-numbers, stop-places, passed, by-over, by-numbers, by-sets, by-held}
 use borrow.Author.Needs.{needs}
 use Rattle.directory.proofs.check_directory.Statement.{statement}
 use Rattle.directory.proofs.check_directory.Tie as tie
+
+-- ---- what each check says of its rules, and that they accept behind it
+
+text-passes : (c : tie.After-enum-told) → (rule7 (c .before .before .before .before .args .p .now) (c .before .before .before .before .args .length) orElse rule8 (c .before .before .before .before .args .p .now) (c .before .before .before .before .args .length)) ≡ accepted
+unfolding verdictIs
+text-passes c = sym (c .before .before .check-text .ensures (c .before .before .before .before .args .length)) ∙ ap verdictIs (c .enum-told .given .1)
+
+over-is : (c : tie.After-read-sets) → verdictIs (c .read-sets .result .over) ≡ rule9 (c .before .before .before .before .before .args .p .now) (c .before .before .before .before .before .args .length)
+over-is c = by-over (c .before .before .before .before .before .args .p .now) (c .before .before .before .before .before .args .length) (c .before .before .before .before .before .args .headers-end - 280 * c .before .before .before .before .before .args .entries) (c .before .before .before .before .before .args .entries) (dsds-of (c .before .before .before .before .before .pre)) (c .read-sets .result) (c .read-sets .ensures)
+
+over-passes : (c : tie.After-enum-told2) → rule9 (c .before .before .before .before .before .before .before .args .p .now) (c .before .before .before .before .before .before .before .args .length) ≡ accepted
+unfolding verdictIs
+over-passes c = sym (over-is (c .before .before)) ∙ ap verdictIs (c .enum-told2 .given .1)
+
+numbers-is : (c : tie.After-check-numbers) → verdictIs (c .check-numbers .result) ≡ (rule10 (c .before .before .before .before .before .before .before .before .args .p .now) (c .before .before .before .before .before .before .before .before .args .length) orElse rule11 (c .before .before .before .before .before .before .before .before .args .p .now) (c .before .before .before .before .before .before .before .before .args .length))
+numbers-is c = c .check-numbers .ensures ∙ by-numbers (c .before .before .before .before .before .before .before .before .args .p .now) (c .before .before .before .before .before .before .before .before .args .length) (c .before .before .before .before .before .before .before .before .args .headers-end - 280 * c .before .before .before .before .before .before .before .before .args .entries) (c .before .before .before .before .before .before .before .before .args .entries) (dsds-of (c .before .before .before .before .before .before .before .before .pre)) (c .before .before .before .read-sets .result) (c .before .before .before .read-sets .ensures) (over-passes (c .before))
+
+numbers-passes : (c : tie.After-enum-told3) → (rule10 (c .before .before .before .before .before .before .before .before .before .before .args .p .now) (c .before .before .before .before .before .before .before .before .before .before .args .length) orElse rule11 (c .before .before .before .before .before .before .before .before .before .before .args .p .now) (c .before .before .before .before .before .before .before .before .before .before .args .length)) ≡ accepted
+unfolding verdictIs
+numbers-passes c = sym (numbers-is (c .before .before)) ∙ ap verdictIs (c .enum-told3 .given .1)
+
+places-is : (c : tie.After-check-places) → verdictIs (c .check-places .result) ≡ (rule12 (c .before .before .before .before .before .before .before .before .before .before .before .before .before .before .before .args .p .now) (c .before .before .before .before .before .before .before .before .before .before .before .before .before .before .before .args .length) orElse (rule13 (c .before .before .before .before .before .before .before .before .before .before .before .before .before .before .before .args .p .now) (c .before .before .before .before .before .before .before .before .before .before .before .before .before .before .before .args .length) orElse rule14 (c .before .before .before .before .before .before .before .before .before .before .before .before .before .before .before .args .p .now) (c .before .before .before .before .before .before .before .before .before .before .before .before .before .before .before .args .length)))
+places-is c =
+    by-held (c .before .before .before .before .before .before .before .before .before .before .before .before .before .before .before .args .p .now) (c .before .before .before .before .before .before .before .before .before .before .before .before .before .before .before .args .length) (c .before .before .before .before .before .before .before .before .before .before .before .before .before .before .before .args .headers-end) (c .before .before .before .before .before .before .before .before .before .before .before .before .before .before .before .args .entries) (c .before .before .before .before .before .before .before .before .before .before .before .before .before .before .before .pre) (c .before .before .before .before .before .before .before .before .before .before .read-sets .result) (c .before .before .before .before .before .before .before .before .before .before .read-sets .ensures) (text-passes (c .before .before .before .before .before .before .before .before .before .before .before)) (over-passes (c .before .before .before .before .before .before .before .before)) (numbers-passes (c .before .before .before .before .before))
+    (c .check-places .ensures)
 
 mul-dsds : tie.Need-mul-dsds
 mul-dsds c = omega arith
@@ -43,9 +70,7 @@ refused-check-requires-2 c κs = search needs
 returns-2 : tie.Need-returns-2
 unfolding verdictIs
 returns-2 c =
-    stopped (c .before .before .before .before .before .before .before .before .before .args .p .now) (c .before .before .before .before .before .before .before .before .before .args .length) (c .refused-check2 .result)
-    (stop-over (c .before .before .before .before .before .before .before .before .before .args .p .now) (c .before .before .before .before .before .before .before .before .before .args .length) (sym (c .before .before .before .before .before .before .before .check-text .ensures (c .before .before .before .before .before .before .before .before .before .args .length)) ∙ ap verdictIs (c .before .before .before .before .before .enum-told .given .1)) (sym (ap verdictIs (c .before .before .over .given .1)) ∙ by-over (c .before .before .before .before .before .before .before .before .before .args .p .now) (c .before .before .before .before .before .before .before .before .before .args .length) (c .before .before .before .before .before .before .before .before .before .args .headers-end - 280 * c .before .before .before .before .before .before .before .before .before .args .entries) (c .before .before .before .before .before .before .before .before .before .args .entries) (dsds-of (c .before .before .before .before .before .before .before .before .before .pre)) (c .before .before .before .before .read-sets .result) (c .before .before .before .before .read-sets .ensures)))
-    (c .refused-check2 .ensures)
+    stopped (c .before .before .before .before .before .before .before .before .before .args .p .now) (c .before .before .before .before .before .before .before .before .before .args .length) (c .refused-check2 .result) (stop-over (c .before .before .before .before .before .before .before .before .before .args .p .now) (c .before .before .before .before .before .before .before .before .before .args .length) (text-passes (c .before .before .before .before .before)) (sym (ap verdictIs (c .before .before .over .given .1)) ∙ over-is (c .before .before .before .before))) (c .refused-check2 .ensures)
 
 enum-told-2 : tie.Need-enum-told-2
 enum-told-2 c = search needs
@@ -62,9 +87,7 @@ refused-check-requires-3 c κs = search needs
 returns-3 : tie.Need-returns-3
 unfolding verdictIs
 returns-3 c =
-    stopped (c .before .before .before .before .before .before .before .before .before .before .before .before .args .p .now) (c .before .before .before .before .before .before .before .before .before .before .before .before .args .length) (c .refused-check3 .result)
-    (stop-numbers (c .before .before .before .before .before .before .before .before .before .before .before .before .args .p .now) (c .before .before .before .before .before .before .before .before .before .before .before .before .args .length) (sym (c .before .before .before .before .before .before .before .before .before .before .check-text .ensures (c .before .before .before .before .before .before .before .before .before .before .before .before .args .length)) ∙ ap verdictIs (c .before .before .before .before .before .before .before .before .enum-told .given .1)) (sym (by-over (c .before .before .before .before .before .before .before .before .before .before .before .before .args .p .now) (c .before .before .before .before .before .before .before .before .before .before .before .before .args .length) (c .before .before .before .before .before .before .before .before .before .before .before .before .args .headers-end - 280 * c .before .before .before .before .before .before .before .before .before .before .before .before .args .entries) (c .before .before .before .before .before .before .before .before .before .before .before .before .args .entries) (dsds-of (c .before .before .before .before .before .before .before .before .before .before .before .before .pre)) (c .before .before .before .before .before .before .before .read-sets .result) (c .before .before .before .before .before .before .before .read-sets .ensures)) ∙ ap verdictIs (c .before .before .before .before .before .enum-told2 .given .1)) (sym (ap verdictIs (c .before .before .numbers .given .1)) ∙ c .before .before .before .before .check-numbers .ensures ∙ by-numbers (c .before .before .before .before .before .before .before .before .before .before .before .before .args .p .now) (c .before .before .before .before .before .before .before .before .before .before .before .before .args .length) (c .before .before .before .before .before .before .before .before .before .before .before .before .args .headers-end - 280 * c .before .before .before .before .before .before .before .before .before .before .before .before .args .entries) (c .before .before .before .before .before .before .before .before .before .before .before .before .args .entries) (dsds-of (c .before .before .before .before .before .before .before .before .before .before .before .before .pre)) (c .before .before .before .before .before .before .before .read-sets .result) (c .before .before .before .before .before .before .before .read-sets .ensures) (sym (by-over (c .before .before .before .before .before .before .before .before .before .before .before .before .args .p .now) (c .before .before .before .before .before .before .before .before .before .before .before .before .args .length) (c .before .before .before .before .before .before .before .before .before .before .before .before .args .headers-end - 280 * c .before .before .before .before .before .before .before .before .before .before .before .before .args .entries) (c .before .before .before .before .before .before .before .before .before .before .before .before .args .entries) (dsds-of (c .before .before .before .before .before .before .before .before .before .before .before .before .pre)) (c .before .before .before .before .before .before .before .read-sets .result) (c .before .before .before .before .before .before .before .read-sets .ensures)) ∙ ap verdictIs (c .before .before .before .before .before .enum-told2 .given .1))))
-    (c .refused-check3 .ensures)
+    stopped (c .before .before .before .before .before .before .before .before .before .before .before .before .args .p .now) (c .before .before .before .before .before .before .before .before .before .before .before .before .args .length) (c .refused-check3 .result) (stop-numbers (c .before .before .before .before .before .before .before .before .before .before .before .before .args .p .now) (c .before .before .before .before .before .before .before .before .before .before .before .before .args .length) (text-passes (c .before .before .before .before .before .before .before .before)) (over-passes (c .before .before .before .before .before)) (sym (ap verdictIs (c .before .before .numbers .given .1)) ∙ numbers-is (c .before .before .before .before))) (c .refused-check3 .ensures)
 
 enum-told-3 : tie.Need-enum-told-3
 enum-told-3 c = search needs
@@ -82,8 +105,7 @@ returns-4 : tie.Need-returns-4
 unfolding verdictIs
 returns-4 c =
     stopped (c .before .before .before .before .before .before .before .before .before .before .before .before .before .before .before .before .before .before .before .args .p .now) (c .before .before .before .before .before .before .before .before .before .before .before .before .before .before .before .before .before .before .before .args .length) (c .refused-check4 .result)
-    (stop-places (c .before .before .before .before .before .before .before .before .before .before .before .before .before .before .before .before .before .before .before .args .p .now) (c .before .before .before .before .before .before .before .before .before .before .before .before .before .before .before .before .before .before .before .args .length) (sym (c .before .before .before .before .before .before .before .before .before .before .before .before .before .before .before .before .before .check-text .ensures (c .before .before .before .before .before .before .before .before .before .before .before .before .before .before .before .before .before .before .before .args .length)) ∙ ap verdictIs (c .before .before .before .before .before .before .before .before .before .before .before .before .before .before .before .enum-told .given .1)) (sym (by-over (c .before .before .before .before .before .before .before .before .before .before .before .before .before .before .before .before .before .before .before .args .p .now) (c .before .before .before .before .before .before .before .before .before .before .before .before .before .before .before .before .before .before .before .args .length) (c .before .before .before .before .before .before .before .before .before .before .before .before .before .before .before .before .before .before .before .args .headers-end - 280 * c .before .before .before .before .before .before .before .before .before .before .before .before .before .before .before .before .before .before .before .args .entries) (c .before .before .before .before .before .before .before .before .before .before .before .before .before .before .before .before .before .before .before .args .entries) (dsds-of (c .before .before .before .before .before .before .before .before .before .before .before .before .before .before .before .before .before .before .before .pre)) (c .before .before .before .before .before .before .before .before .before .before .before .before .before .before .read-sets .result) (c .before .before .before .before .before .before .before .before .before .before .before .before .before .before .read-sets .ensures)) ∙ ap verdictIs (c .before .before .before .before .before .before .before .before .before .before .before .before .enum-told2 .given .1)) (sym (c .before .before .before .before .before .before .before .before .before .before .before .check-numbers .ensures ∙ by-numbers (c .before .before .before .before .before .before .before .before .before .before .before .before .before .before .before .before .before .before .before .args .p .now) (c .before .before .before .before .before .before .before .before .before .before .before .before .before .before .before .before .before .before .before .args .length) (c .before .before .before .before .before .before .before .before .before .before .before .before .before .before .before .before .before .before .before .args .headers-end - 280 * c .before .before .before .before .before .before .before .before .before .before .before .before .before .before .before .before .before .before .before .args .entries) (c .before .before .before .before .before .before .before .before .before .before .before .before .before .before .before .before .before .before .before .args .entries) (dsds-of (c .before .before .before .before .before .before .before .before .before .before .before .before .before .before .before .before .before .before .before .pre)) (c .before .before .before .before .before .before .before .before .before .before .before .before .before .before .read-sets .result) (c .before .before .before .before .before .before .before .before .before .before .before .before .before .before .read-sets .ensures) (sym (by-over (c .before .before .before .before .before .before .before .before .before .before .before .before .before .before .before .before .before .before .before .args .p .now) (c .before .before .before .before .before .before .before .before .before .before .before .before .before .before .before .before .before .before .before .args .length) (c .before .before .before .before .before .before .before .before .before .before .before .before .before .before .before .before .before .before .before .args .headers-end - 280 * c .before .before .before .before .before .before .before .before .before .before .before .before .before .before .before .before .before .before .before .args .entries) (c .before .before .before .before .before .before .before .before .before .before .before .before .before .before .before .before .before .before .before .args .entries) (dsds-of (c .before .before .before .before .before .before .before .before .before .before .before .before .before .before .before .before .before .before .before .pre)) (c .before .before .before .before .before .before .before .before .before .before .before .before .before .before .read-sets .result) (c .before .before .before .before .before .before .before .before .before .before .before .before .before .before .read-sets .ensures)) ∙ ap verdictIs (c .before .before .before .before .before .before .before .before .before .before .before .before .enum-told2 .given .1))) ∙ ap verdictIs (c .before .before .before .before .before .before .before .before .before .enum-told3 .given .1))
-    (sym (ap verdictIs (c .before .before .places .given .1)) ∙ by-held (c .before .before .before .before .before .before .before .before .before .before .before .before .before .before .before .before .before .before .before .args .p .now) (c .before .before .before .before .before .before .before .before .before .before .before .before .before .before .before .before .before .before .before .args .length) (c .before .before .before .before .before .before .before .before .before .before .before .before .before .before .before .before .before .before .before .args .headers-end) (c .before .before .before .before .before .before .before .before .before .before .before .before .before .before .before .before .before .before .before .args .entries) (c .before .before .before .before .before .before .before .before .before .before .before .before .before .before .before .before .before .before .before .pre) (c .before .before .before .before .before .before .before .before .before .before .before .before .before .before .read-sets .result) (c .before .before .before .before .before .before .before .before .before .before .before .before .before .before .read-sets .ensures) (sym (c .before .before .before .before .before .before .before .before .before .before .before .before .before .before .before .before .before .check-text .ensures (c .before .before .before .before .before .before .before .before .before .before .before .before .before .before .before .before .before .before .before .args .length)) ∙ ap verdictIs (c .before .before .before .before .before .before .before .before .before .before .before .before .before .before .before .enum-told .given .1)) (sym (by-over (c .before .before .before .before .before .before .before .before .before .before .before .before .before .before .before .before .before .before .before .args .p .now) (c .before .before .before .before .before .before .before .before .before .before .before .before .before .before .before .before .before .before .before .args .length) (c .before .before .before .before .before .before .before .before .before .before .before .before .before .before .before .before .before .before .before .args .headers-end - 280 * c .before .before .before .before .before .before .before .before .before .before .before .before .before .before .before .before .before .before .before .args .entries) (c .before .before .before .before .before .before .before .before .before .before .before .before .before .before .before .before .before .before .before .args .entries) (dsds-of (c .before .before .before .before .before .before .before .before .before .before .before .before .before .before .before .before .before .before .before .pre)) (c .before .before .before .before .before .before .before .before .before .before .before .before .before .before .read-sets .result) (c .before .before .before .before .before .before .before .before .before .before .before .before .before .before .read-sets .ensures)) ∙ ap verdictIs (c .before .before .before .before .before .before .before .before .before .before .before .before .enum-told2 .given .1)) (sym (c .before .before .before .before .before .before .before .before .before .before .before .check-numbers .ensures ∙ by-numbers (c .before .before .before .before .before .before .before .before .before .before .before .before .before .before .before .before .before .before .before .args .p .now) (c .before .before .before .before .before .before .before .before .before .before .before .before .before .before .before .before .before .before .before .args .length) (c .before .before .before .before .before .before .before .before .before .before .before .before .before .before .before .before .before .before .before .args .headers-end - 280 * c .before .before .before .before .before .before .before .before .before .before .before .before .before .before .before .before .before .before .before .args .entries) (c .before .before .before .before .before .before .before .before .before .before .before .before .before .before .before .before .before .before .before .args .entries) (dsds-of (c .before .before .before .before .before .before .before .before .before .before .before .before .before .before .before .before .before .before .before .pre)) (c .before .before .before .before .before .before .before .before .before .before .before .before .before .before .read-sets .result) (c .before .before .before .before .before .before .before .before .before .before .before .before .before .before .read-sets .ensures) (sym (by-over (c .before .before .before .before .before .before .before .before .before .before .before .before .before .before .before .before .before .before .before .args .p .now) (c .before .before .before .before .before .before .before .before .before .before .before .before .before .before .before .before .before .before .before .args .length) (c .before .before .before .before .before .before .before .before .before .before .before .before .before .before .before .before .before .before .before .args .headers-end - 280 * c .before .before .before .before .before .before .before .before .before .before .before .before .before .before .before .before .before .before .before .args .entries) (c .before .before .before .before .before .before .before .before .before .before .before .before .before .before .before .before .before .before .before .args .entries) (dsds-of (c .before .before .before .before .before .before .before .before .before .before .before .before .before .before .before .before .before .before .before .pre)) (c .before .before .before .before .before .before .before .before .before .before .before .before .before .before .read-sets .result) (c .before .before .before .before .before .before .before .before .before .before .before .before .before .before .read-sets .ensures)) ∙ ap verdictIs (c .before .before .before .before .before .before .before .before .before .before .before .before .enum-told2 .given .1))) ∙ ap verdictIs (c .before .before .before .before .before .before .before .before .before .enum-told3 .given .1)) (c .before .before .before .before .check-places .ensures)))
+    (stop-places (c .before .before .before .before .before .before .before .before .before .before .before .before .before .before .before .before .before .before .before .args .p .now) (c .before .before .before .before .before .before .before .before .before .before .before .before .before .before .before .before .before .before .before .args .length) (text-passes (c .before .before .before .before .before .before .before .before .before .before .before .before .before .before .before)) (over-passes (c .before .before .before .before .before .before .before .before .before .before .before .before)) (numbers-passes (c .before .before .before .before .before .before .before .before .before)) (sym (ap verdictIs (c .before .before .places .given .1)) ∙ places-is (c .before .before .before .before)))
     (c .refused-check4 .ensures)
 
 enum-told-4 : tie.Need-enum-told-4
@@ -92,10 +114,8 @@ enum-told-4 c = search needs
 returns-5 : tie.Need-returns-5
 unfolding verdictIs
 returns-5 c =
-    passed (c .before .before .before .before .before .before .before .before .before .before .before .before .before .before .before .before .before .args .p .now) (c .before .before .before .before .before .before .before .before .before .before .before .before .before .before .before .before .before .args .length) _ (sym (c .before .before .before .before .before .before .before .before .before .before .before .before .before .before .before .check-text .ensures (c .before .before .before .before .before .before .before .before .before .before .before .before .before .before .before .before .before .args .length)) ∙ ap verdictIs (c .before .before .before .before .before .before .before .before .before .before .before .before .before .enum-told .given .1)) (sym (by-over (c .before .before .before .before .before .before .before .before .before .before .before .before .before .before .before .before .before .args .p .now) (c .before .before .before .before .before .before .before .before .before .before .before .before .before .before .before .before .before .args .length) (c .before .before .before .before .before .before .before .before .before .before .before .before .before .before .before .before .before .args .headers-end - 280 * c .before .before .before .before .before .before .before .before .before .before .before .before .before .before .before .before .before .args .entries) (c .before .before .before .before .before .before .before .before .before .before .before .before .before .before .before .before .before .args .entries) (dsds-of (c .before .before .before .before .before .before .before .before .before .before .before .before .before .before .before .before .before .pre)) (c .before .before .before .before .before .before .before .before .before .before .before .before .read-sets .result) (c .before .before .before .before .before .before .before .before .before .before .before .before .read-sets .ensures)) ∙ ap verdictIs (c .before .before .before .before .before .before .before .before .before .before .enum-told2 .given .1)) (sym (c .before .before .before .before .before .before .before .before .before .check-numbers .ensures ∙ by-numbers (c .before .before .before .before .before .before .before .before .before .before .before .before .before .before .before .before .before .args .p .now) (c .before .before .before .before .before .before .before .before .before .before .before .before .before .before .before .before .before .args .length) (c .before .before .before .before .before .before .before .before .before .before .before .before .before .before .before .before .before .args .headers-end - 280 * c .before .before .before .before .before .before .before .before .before .before .before .before .before .before .before .before .before .args .entries) (c .before .before .before .before .before .before .before .before .before .before .before .before .before .before .before .before .before .args .entries) (dsds-of (c .before .before .before .before .before .before .before .before .before .before .before .before .before .before .before .before .before .pre)) (c .before .before .before .before .before .before .before .before .before .before .before .before .read-sets .result) (c .before .before .before .before .before .before .before .before .before .before .before .before .read-sets .ensures) (sym (by-over (c .before .before .before .before .before .before .before .before .before .before .before .before .before .before .before .before .before .args .p .now) (c .before .before .before .before .before .before .before .before .before .before .before .before .before .before .before .before .before .args .length) (c .before .before .before .before .before .before .before .before .before .before .before .before .before .before .before .before .before .args .headers-end - 280 * c .before .before .before .before .before .before .before .before .before .before .before .before .before .before .before .before .before .args .entries) (c .before .before .before .before .before .before .before .before .before .before .before .before .before .before .before .before .before .args .entries) (dsds-of (c .before .before .before .before .before .before .before .before .before .before .before .before .before .before .before .before .before .pre)) (c .before .before .before .before .before .before .before .before .before .before .before .before .read-sets .result) (c .before .before .before .before .before .before .before .before .before .before .before .before .read-sets .ensures)) ∙ ap verdictIs (c .before .before .before .before .before .before .before .before .before .before .enum-told2 .given .1))) ∙ ap verdictIs (c .before .before .before .before .before .before .before .enum-told3 .given .1))
-    (sym (by-held (c .before .before .before .before .before .before .before .before .before .before .before .before .before .before .before .before .before .args .p .now) (c .before .before .before .before .before .before .before .before .before .before .before .before .before .before .before .before .before .args .length) (c .before .before .before .before .before .before .before .before .before .before .before .before .before .before .before .before .before .args .headers-end) (c .before .before .before .before .before .before .before .before .before .before .before .before .before .before .before .before .before .args .entries) (c .before .before .before .before .before .before .before .before .before .before .before .before .before .before .before .before .before .pre) (c .before .before .before .before .before .before .before .before .before .before .before .before .read-sets .result) (c .before .before .before .before .before .before .before .before .before .before .before .before .read-sets .ensures) (sym (c .before .before .before .before .before .before .before .before .before .before .before .before .before .before .before .check-text .ensures (c .before .before .before .before .before .before .before .before .before .before .before .before .before .before .before .before .before .args .length)) ∙ ap verdictIs (c .before .before .before .before .before .before .before .before .before .before .before .before .before .enum-told .given .1)) (sym (by-over (c .before .before .before .before .before .before .before .before .before .before .before .before .before .before .before .before .before .args .p .now) (c .before .before .before .before .before .before .before .before .before .before .before .before .before .before .before .before .before .args .length) (c .before .before .before .before .before .before .before .before .before .before .before .before .before .before .before .before .before .args .headers-end - 280 * c .before .before .before .before .before .before .before .before .before .before .before .before .before .before .before .before .before .args .entries) (c .before .before .before .before .before .before .before .before .before .before .before .before .before .before .before .before .before .args .entries) (dsds-of (c .before .before .before .before .before .before .before .before .before .before .before .before .before .before .before .before .before .pre)) (c .before .before .before .before .before .before .before .before .before .before .before .before .read-sets .result) (c .before .before .before .before .before .before .before .before .before .before .before .before .read-sets .ensures)) ∙ ap verdictIs (c .before .before .before .before .before .before .before .before .before .before .enum-told2 .given .1)) (sym (c .before .before .before .before .before .before .before .before .before .check-numbers .ensures ∙ by-numbers (c .before .before .before .before .before .before .before .before .before .before .before .before .before .before .before .before .before .args .p .now) (c .before .before .before .before .before .before .before .before .before .before .before .before .before .before .before .before .before .args .length) (c .before .before .before .before .before .before .before .before .before .before .before .before .before .before .before .before .before .args .headers-end - 280 * c .before .before .before .before .before .before .before .before .before .before .before .before .before .before .before .before .before .args .entries) (c .before .before .before .before .before .before .before .before .before .before .before .before .before .before .before .before .before .args .entries) (dsds-of (c .before .before .before .before .before .before .before .before .before .before .before .before .before .before .before .before .before .pre)) (c .before .before .before .before .before .before .before .before .before .before .before .before .read-sets .result) (c .before .before .before .before .before .before .before .before .before .before .before .before .read-sets .ensures) (sym (by-over (c .before .before .before .before .before .before .before .before .before .before .before .before .before .before .before .before .before .args .p .now) (c .before .before .before .before .before .before .before .before .before .before .before .before .before .before .before .before .before .args .length) (c .before .before .before .before .before .before .before .before .before .before .before .before .before .before .before .before .before .args .headers-end - 280 * c .before .before .before .before .before .before .before .before .before .before .before .before .before .before .before .before .before .args .entries) (c .before .before .before .before .before .before .before .before .before .before .before .before .before .before .before .before .before .args .entries) (dsds-of (c .before .before .before .before .before .before .before .before .before .before .before .before .before .before .before .before .before .pre)) (c .before .before .before .before .before .before .before .before .before .before .before .before .read-sets .result) (c .before .before .before .before .before .before .before .before .before .before .before .before .read-sets .ensures)) ∙ ap verdictIs (c .before .before .before .before .before .before .before .before .before .before .enum-told2 .given .1))) ∙ ap verdictIs (c .before .before .before .before .before .before .before .enum-told3 .given .1)) (c .before .before .check-places .ensures)) ∙ ap verdictIs (c .enum-told4 .given .1))
-    refl
-    (by-sets (c .before .before .before .before .before .before .before .before .before .before .before .before .before .before .before .before .before .args .p .now) (c .before .before .before .before .before .before .before .before .before .before .before .before .before .before .before .before .before .args .length) (c .before .before .before .before .before .before .before .before .before .before .before .before .before .before .before .before .before .args .headers-end - 280 * c .before .before .before .before .before .before .before .before .before .before .before .before .before .before .before .before .before .args .entries) (c .before .before .before .before .before .before .before .before .before .before .before .before .before .before .before .before .before .args .entries) (dsds-of (c .before .before .before .before .before .before .before .before .before .before .before .before .before .before .before .before .before .pre)) (c .before .before .before .before .before .before .before .before .before .before .before .before .read-sets .result) (c .before .before .before .before .before .before .before .before .before .before .before .before .read-sets .ensures) (sym (by-over (c .before .before .before .before .before .before .before .before .before .before .before .before .before .before .before .before .before .args .p .now) (c .before .before .before .before .before .before .before .before .before .before .before .before .before .before .before .before .before .args .length) (c .before .before .before .before .before .before .before .before .before .before .before .before .before .before .before .before .before .args .headers-end - 280 * c .before .before .before .before .before .before .before .before .before .before .before .before .before .before .before .before .before .args .entries) (c .before .before .before .before .before .before .before .before .before .before .before .before .before .before .before .before .before .args .entries) (dsds-of (c .before .before .before .before .before .before .before .before .before .before .before .before .before .before .before .before .before .pre)) (c .before .before .before .before .before .before .before .before .before .before .before .before .read-sets .result) (c .before .before .before .before .before .before .before .before .before .before .before .before .read-sets .ensures)) ∙ ap verdictIs (c .before .before .before .before .before .before .before .before .before .before .enum-told2 .given .1)))
+    passed (c .before .before .before .before .before .before .before .before .before .before .before .before .before .before .before .before .before .args .p .now) (c .before .before .before .before .before .before .before .before .before .before .before .before .before .before .before .before .before .args .length) _ (text-passes (c .before .before .before .before .before .before .before .before .before .before .before .before .before)) (over-passes (c .before .before .before .before .before .before .before .before .before .before)) (numbers-passes (c .before .before .before .before .before .before .before)) (sym (places-is (c .before .before)) ∙ ap verdictIs (c .enum-told4 .given .1)) refl
+    (by-sets (c .before .before .before .before .before .before .before .before .before .before .before .before .before .before .before .before .before .args .p .now) (c .before .before .before .before .before .before .before .before .before .before .before .before .before .before .before .before .before .args .length) (c .before .before .before .before .before .before .before .before .before .before .before .before .before .before .before .before .before .args .headers-end - 280 * c .before .before .before .before .before .before .before .before .before .before .before .before .before .before .before .before .before .args .entries) (c .before .before .before .before .before .before .before .before .before .before .before .before .before .before .before .before .before .args .entries) (dsds-of (c .before .before .before .before .before .before .before .before .before .before .before .before .before .before .before .before .before .pre)) (c .before .before .before .before .before .before .before .before .before .before .before .before .read-sets .result) (c .before .before .before .before .before .before .before .before .before .before .before .before .read-sets .ensures) (over-passes (c .before .before .before .before .before .before .before .before .before .before)))
 
 pub check-directory-spec : {M : Type 1} → statement M
 check-directory-spec =

@@ -3,7 +3,6 @@
 use Prim.Native.Nat.{_≤_, _-_}
 use mathlib.Core.Path.{_≡_, _∙_, ap}
 use native.Mathlib.Omega.{arith}
-use lib.ListN.{length, length-set}
 use lib.Seq.{paste, paste-zero}
 use Rattle.layout.specs.Bytes.{part}
 use Rattle.directory.proofs.Copies.{byte-more, pasted-length}

@@ -1,10 +1,9 @@
 -- `directory::copy_names` meets its contract: the array holds the texts of the first `i` entries.
 -- Assumes nothing.
 use Prim.Native.Nat.{ℕ, _+_, _*_, _-_, _≤_}
-use mathlib.Core.Path.{_≡_, sym, _∙_, subst}
+use mathlib.Core.Path.{sym, subst}
 use mathlib.Core.List.{List}
 use native.Mathlib.Omega.{arith}
-use lib.ListN.{length}
 use Rattle.layout.specs.Bytes.{part}
 use Rattle.layout.specs.Answers.{nameOf}
 use Rattle.directory.proofs.Copies.{Copied, none-copied, one-copied, all-copied, part-length, name-here}

@@ -1,9 +1,8 @@
 -- `directory::is_called` meets its contract: what is left of the name from `i` on decides the whole name.
 -- Assumes nothing.
 use Prim.Native.Nat.{_+_, _-_, _≤_}
-use mathlib.Core.Path.{_≡_, sym, _∙_, ap}
+use mathlib.Core.Path.{_≡_, sym, _∙_}
 use native.Mathlib.Omega.{arith}
-use lib.Dec.{eqb}
 use lib.ListN.{length, drop}
 use borrow.Author.Tests.{ne-eqb, eq-eqb}
 use Rattle.layout.specs.Bytes.{part}

@@ -1,6 +1,6 @@
 -- `directory::Entry::is_fixed` meets its contract: the quotient is the count exactly when the product is the size.
 -- Assumes nothing.
-use borrow.Author.Tests.{eq-eqb, ne-eqb, le-leb, lt-leb}
+use borrow.Author.Tests.{le-leb, lt-leb}
 use mathlib.Core.Bool.{and-false}
 use native.Mathlib.Omega.{arith}
 use Rattle.layout.specs.Entries.{isFixed}

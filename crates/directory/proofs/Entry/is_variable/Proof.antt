@@ -1,6 +1,6 @@
 -- `directory::Entry::is_variable` meets its contract.
 -- Assumes nothing.
-use borrow.Author.Tests.{eq-eqb, ne-eqb, lt-ltb, le-ltb, not-true, not-false}
+use borrow.Author.Tests.{ne-eqb, lt-ltb, le-ltb, not-true, not-false}
 use mathlib.Core.Bool.{and-false}
 use native.Mathlib.Omega.{arith}
 use Rattle.layout.specs.Entries.{isVariable}
