@@ -1,14 +1,14 @@
 -- What the first bad place of a whole header says: the answer of its layout, for the main header and for a DSD.
 -- Assumes nothing.
-use Prim.Native.Nat.{ℕ, suc, _+_, _≤_}
+use Prim.Native.Nat.{ℕ, suc, _+_, _-_, _≤_}
 use mathlib.Core.Bool.{Bool, true, false, cond}
 use mathlib.Core.List.{List, [], _∷_}
 use mathlib.Core.Path.{_≡_, refl, _∙_}
 use native.Mathlib.Omega.{arith}
 use native.Mathlib.Nat.{add-zero, add-suc, suc-add}
 use lib.Dec.{eqb}
-use lib.ListN.{length, drop, getD}
-use lib.Seq.{drop-cons, getD-take, getD-drop}
+use lib.ListN.{length, take, drop, getD, length-drop}
+use lib.Seq.{drop-cons, getD-take, getD-drop, length-take-le}
 use borrow.Author.Tests.{eq-eqb, ne-eqb}
 use Rattle.layout.specs.Bytes.{part, byteAt}
 use Rattle.layout.specs.Text.{Class, Line, fits, layout}
@@ -17,7 +17,9 @@ use Rattle.layout.specs.Rules.{linesOf}
 use Rattle.layout.specs.Answer.{need, _orElse_}
 use Rattle.layout.specs.Search.{laidOut}
 use Rattle.layout.proofs.Laws.{laidOut-take}
+use Rattle.text.proofs.Parts.{byte-part}
 use Rattle.lines.specs.Table.{firstBad}
+use Rattle.lines.proofs.Spans.{bad-bounds}
 
 answer : (n e : ℕ) (ks : List Class) (b : List ℕ) (p : ℕ) → p + length ks ≤ length b
     → laidOut n e p ks (drop p b) ≡ need (eqb (firstBad ks b p) (p + length ks)) n (firstBad ks b p) e
@@ -58,3 +60,28 @@ module _ (b : List ℕ) (at : ℕ) where
   unfolding part
   dsd-answer ls ks r which same long found h e =
       rw (which, ← same) (laidOut-take 8 e ks (drop at b) at 280 (omega arith) ∙ header-answer 8 e ks ks b at r (at + 280) refl found (omega arith) h)
+
+  -- the DSD by itself, as the code lends it: r is its first bad place
+  pub dsd-long : at + 280 ≤ length b → 280 ≤ length (take (at + 280 - at) (drop at b))
+  dsd-long h =
+      let q : at + 280 - at ≡ 280 = omega arith in
+      rw (q, length-take-le 280 (drop at b) (rw (length-drop at b) (omega arith))) (omega arith)
+
+  part-bad : (ks : List Class) (p n : ℕ) → p + length ks ≤ n → at + firstBad ks (part b at n) p ≡ firstBad ks b (at + p)
+  unfolding firstBad
+  part-bad [] p n h = refl
+  part-bad (k ∷ ks) p n h = rw (byte-part b at n p (omega arith)) (go (fits k (byteAt b (at + p))) (part-bad ks (suc p) n (omega arith)))
+    where
+      go : (u : Bool) → at + firstBad ks (part b at n) (suc p) ≡ firstBad ks b (at + suc p) → at + cond u (firstBad ks (part b at n) (suc p)) p ≡ cond u (firstBad ks b (suc (at + p))) (at + p)
+      go true e = e ∙ rw (add-suc at p)
+      go false e = refl
+
+  module _ (ks : List Class) (r : ℕ) (long : length ks ≡ 280) (found : r ≡ firstBad ks (take (at + 280 - at) (drop at b)) 0) where
+    pub dsd-inside : r ≤ 280
+    dsd-inside = omega (arith, bad-bounds ks (take (at + 280 - at) (drop at b)) 0 .1)
+
+    pub dsd-place : at + r ≡ firstBad ks b at
+    unfolding part
+    dsd-place =
+        let q : at + 280 - at ≡ 280 = omega arith in
+        rw (found, q) (part-bad ks 0 280 (omega arith) ∙ rw (add-zero at))

@@ -5,17 +5,17 @@ use mathlib.Core.Bool.{Bool, true, false, cond}
 use mathlib.Core.List.{List, [], _∷_, _++_}
 use mathlib.Core.Path.{_≡_, refl, sym, _∙_}
 use native.Mathlib.Omega.{arith}
-use native.Mathlib.Nat.{add-zero, zero-add, add-suc, suc-add, le-of-suc-le-suc, not-suc-le-zero}
+use native.Mathlib.Nat.{sub-zero}
 use native.Mathlib.Numerals.{add-one}
 use lib.Dec.{T, eqb, leb, eqb→eq, leb→le}
 use lib.ListN.{length, drop, getD, replicate, length-replicate, length-append, length-drop}
 use lib.Seq.{length-take-le}
 use borrow.Author.Tests.{eq-eqb, ne-eqb, eqb-true, eqb-false}
 use Rattle.layout.specs.Bytes.{part}
-use Rattle.layout.specs.Text.{Class, exactly, plain, digit, literal, s, sAB, spare, valueClasses, lineClasses}
+use Rattle.layout.specs.Text.{Class, exactly, plain, digit, literal, s, sAB, valueClasses}
 use Rattle.layout.proofs.Laws.{and-T}
 use Rattle.lines.specs.declared.Line.{Line}
-use Rattle.lines.specs.Table.{firstBad, valueLaid, widthFits, namedLaid, lineLaid, namedFits, lineFits, lineOf, linesLaid, linesFit, tableLaid, tableFits}
+use Rattle.lines.specs.Table.{firstBad, valueLaid, widthFits, behind, lineLaid, lineFits, lineOf, linesLaid, linesFit, tableLaid, tableFits}
 use Rattle.lines.proofs.Spans.{after-good, after-bad, length-literal}
 use Rattle.lines.proofs.Values.{text-laid, flag-laid, type-laid, whole-laid, thousandths-laid, millionths-laid, flag-width, type-width, whole-width, thousandths-width, millionths-width}
 
@@ -60,173 +60,124 @@ length-value k w h = one (eqb k 113) refl
 
 -- ---- what a line's test says
 
-pub record Named (m : ℕ) (l : Line) : Type 0 where
-  pub before : l .start ≤ l .value
-  pub behind : l .value + l .width ≤ l .end
-  pub inside : l .end ≤ m
+pub record Named (m from : ℕ) (l : Line) : Type 0 where
+  pub before : from ≤ l .value
+  pub inside : l .value + l .width ≤ m
   pub width : T (widthFits (l .kind) (l .width))
 
-module _ (m : ℕ) (l : Line) (fit : T (lineFits m l)) where
-  pub line-inside : l .end ≤ m
-  unfolding lineFits
-  line-inside = leb→le (l .end) m (and-T (leb (l .end) m) (cond (eqb (l .kind) 32) (eqb (l .end) (l .start + l .width + 1)) (namedFits l)) .0 fit .0)
+pub named-fits : (m from : ℕ) (l : Line) → T (lineFits m from l) → (l .kind ≡ 32 → ⊥) → Named m from l
+unfolding lineFits
+named-fits m from l fit e =
+    let g = and-T (leb from (l .value)) _ .0 (rw (ne-eqb (l .kind) 32 e) at fit) in
+    let w = and-T (leb (l .value + l .width) m) _ .0 (g .1) in
+    record { before = leb→le _ _ (g .0); inside = leb→le _ _ (w .0); width = w .1 }
 
-  pub spare-end : l .kind ≡ 32 → l .end ≡ l .start + l .width + 1
-  unfolding lineFits
-  spare-end e = eqb→eq _ _ (rw (eq-eqb (l .kind) 32 e) at (and-T (leb (l .end) m) _ .0 fit .1))
-
-  pub named-fits : (l .kind ≡ 32 → ⊥) → Named m l
-  unfolding lineFits namedFits
-  named-fits e =
-      let h : T (namedFits l) = rw (ne-eqb (l .kind) 32 e) at (and-T (leb (l .end) m) _ .0 fit .1) in
-      let g = and-T (leb (l .start) (l .value)) _ .0 h in
-      let w = and-T (leb (l .value + l .width) (l .end)) _ .0 (g .1) in
-      record { before = leb→le _ _ (g .0); behind = leb→le _ _ (w .0); inside = line-inside; width = w .1 }
+pub width-fits : (m from : ℕ) (l : Line) → Named m from l → T (widthFits (l .kind) (l .value + l .width - l .value))
+width-fits m from l k = let q : l .value + l .width - l .value ≡ l .width = omega arith in rw q (k .width)
 
 -- ---- the spans of a line
 
-module _ (t b : List ℕ) (at : ℕ) (l : Line) (fit : T (lineFits (length t) l)) where
-  pub line-spare : (r : ℕ) → l .kind ≡ 32 → r ≡ firstBad (lineClasses (spare (l .width))) b (at + l .start) → r ≡ firstBad (lineLaid t l) b (at + l .start)
-  unfolding lineLaid
-  line-spare r e found = rw (eq-eqb (l .kind) 32 e) found
+pub line-spare : (t b : List ℕ) (from : ℕ) (l : Line) → l .kind ≡ 32 → from ≡ firstBad (lineLaid t from l) b from
+unfolding lineLaid firstBad
+line-spare t b from l e = rw (eq-eqb (l .kind) 32 e)
 
-  module _ (e : l .kind ≡ 32 → ⊥) (r : ℕ) (found : r ≡ firstBad (literal (part t (l .start) (l .value - l .start))) b (at + l .start)) where
-    ahead : List Class
-    ahead = literal (part t (l .start) (l .value - l .start))
+module _ (t b : List ℕ) (from : ℕ) (l : Line) (fit : T (lineFits (length t) from l)) (e : l .kind ≡ 32 → ⊥) where
+  ahead : List Class
+  ahead = literal (part t from (l .value - from))
 
-    behind : List Class
-    behind = literal (part t (l .value + l .width) (l .end - (l .value + l .width)))
+  laid : lineLaid t from l ≡ ahead ++ valueLaid (l .kind) (l .width)
+  unfolding lineLaid ahead
+  laid = rw (ne-eqb (l .kind) 32 e)
 
-    laid : lineLaid t l ≡ ahead ++ (valueLaid (l .kind) (l .width) ++ behind)
-    unfolding lineLaid namedLaid ahead behind
-    laid = rw (ne-eqb (l .kind) 32 e)
+  known : Named (length t) from l
+  known = named-fits (length t) from l fit e
 
-    known : Named (length t) l
-    known = named-fits (length t) l fit e
+  to-value : l .value ≡ from + length ahead
+  unfolding ahead
+  to-value = omega (arith, length-span t from (l .value) (known .before) (omega (arith, known .inside)), known .before)
 
-    to-value : at + l .value ≡ at + l .start + length ahead
+  -- r is where the literal bytes end
+  module _ (r : ℕ) (found : r ≡ firstBad (literal (part t from (l .value - from))) b from) where
+    pub line-before : (r ≡ l .value → ⊥) → r ≡ firstBad (lineLaid t from l) b from
     unfolding ahead
-    to-value = omega (arith, length-span t (l .start) (l .value) (known .before) (omega (arith, known .behind, known .inside)), known .before)
+    line-before h = found ∙ sym (rw laid (after-bad ahead _ b from (l .value) to-value (λ q. h (found ∙ q))))
 
-    to-behind : at + (l .value + l .width) ≡ at + l .value + length (valueLaid (l .kind) (l .width))
-    to-behind = omega (arith, length-value (l .kind) (l .width) (known .width))
-
-    pub line-before : (r ≡ at + l .value → ⊥) → r ≡ firstBad (lineLaid t l) b (at + l .start)
+    pub line-value : r ≡ l .value → (v : ℕ) → v ≡ firstBad (valueLaid (l .kind) (l .value + l .width - l .value)) b (l .value)
+        → v ≡ firstBad (lineLaid t from l) b from
     unfolding ahead
-    line-before h = found ∙ sym (rw laid (after-bad ahead _ b (at + l .start) (at + l .value) to-value (λ q. h (found ∙ q))))
-
-    from-value : r ≡ at + l .value → firstBad (lineLaid t l) b (at + l .start) ≡ firstBad (valueLaid (l .kind) (l .width) ++ behind) b (at + l .value)
-    unfolding ahead
-    from-value h = rw laid (after-good ahead _ b (at + l .start) (at + l .value) to-value (sym found ∙ h))
-
-    module _ (h : r ≡ at + l .value) (v : ℕ) (then : v ≡ firstBad (valueLaid (l .kind) (at + (l .value + l .width) - (at + l .value))) b (at + l .value)) where
-      value : firstBad (valueLaid (l .kind) (l .width)) b (at + l .value) ≡ v
-      value = let q : at + (l .value + l .width) - (at + l .value) ≡ l .width = omega arith in sym (then ∙ rw q)
-
-      pub line-value : (v ≡ at + (l .value + l .width) → ⊥) → v ≡ firstBad (lineLaid t l) b (at + l .start)
-      line-value g =
-          sym (from-value h ∙ after-bad (valueLaid (l .kind) (l .width)) behind b (at + l .value) (at + (l .value + l .width)) to-behind (λ q. g (sym value ∙ q)) ∙ value)
-
-      pub line-behind : v ≡ at + (l .value + l .width) → (w : ℕ)
-          → w ≡ firstBad (literal (part t (l .value + l .width) (l .end - (l .value + l .width)))) b (at + (l .value + l .width))
-          → w ≡ firstBad (lineLaid t l) b (at + l .start)
-      unfolding behind
-      line-behind g w last =
-          last ∙ sym (from-value h ∙ after-good (valueLaid (l .kind) (l .width)) behind b (at + l .value) (at + (l .value + l .width)) to-behind (value ∙ g))
+    line-value h v then =
+        let q : l .value + l .width - l .value ≡ l .width = omega arith in
+        then ∙ rw q (sym (rw laid (after-good ahead _ b from (l .value) to-value (sym found ∙ h))))
 
 -- where a line ends
-pub line-end : (t : List ℕ) (at : ℕ) (l : Line) → T (lineFits (length t) l) → at + l .end ≡ at + l .start + length (lineLaid t l)
-unfolding lineLaid namedLaid lineClasses
-line-end t at l fit = go (eqb (l .kind) 32) refl
+line-end : (t : List ℕ) (from : ℕ) (l : Line) → T (lineFits (length t) from l) → behind from l ≡ from + length (lineLaid t from l)
+unfolding behind lineLaid
+line-end t from l fit = go (eqb (l .kind) 32) refl
   where
-    go : (u : Bool) → eqb (l .kind) 32 ≡ u → at + l .end ≡ at + l .start + length (cond u (lineClasses (spare (l .width))) (namedLaid t l))
-    go true e =
-        let k = spare-end (length t) l fit (eqb-true (l .kind) 32 e) in
-        rw (length-append (replicate (l .width) (exactly 32)) (exactly 10 ∷ []), length-replicate (l .width) (exactly 32)) (omega arith)
+    go : (u : Bool) → eqb (l .kind) 32 ≡ u → behind from l ≡ from + length (lineLaid t from l)
+    go true e = rw e (omega arith)
     go false e =
-        let k = named-fits (length t) l fit (eqb-false (l .kind) 32 e) in
-        let ahead = literal (part t (l .start) (l .value - l .start)) in
-        let behind = literal (part t (l .value + l .width) (l .end - (l .value + l .width))) in
-        rw (length-append ahead (valueLaid (l .kind) (l .width) ++ behind), length-append (valueLaid (l .kind) (l .width)) behind, length-value (l .kind) (l .width) (k .width), length-span t (l .start) (l .value) (k .before) (omega (arith, k .behind, k .inside)), length-span t (l .value + l .width) (l .end) (k .behind) (k .inside)) (omega (arith, k .before, k .behind))
+        let k = named-fits (length t) from l fit (eqb-false (l .kind) 32 e) in
+        rw (e, length-append (literal (part t from (l .value - from))) (valueLaid (l .kind) (l .width)), length-value (l .kind) (l .width) (k .width), length-span t from (l .value) (k .before) (omega (arith, k .inside)))
+        (omega (arith, k .before))
 
 -- ---- the lines of a table
 
-lines-step : (t : List ℕ) (f : ℕ → Line) (i n : ℕ) → i < n → linesLaid t f i (n - i) ≡ lineLaid t (f i) ++ linesLaid t f (i + 1) (n - (i + 1))
-unfolding linesLaid
-lines-step t f i n h = let q : n - i ≡ suc (n - (i + 1)) = omega arith in rw (q, add-one i)
-
-lines-end : (t : List ℕ) (f : ℕ → Line) (i n : ℕ) → n ≤ i → linesLaid t f i (n - i) ≡ []
-unfolding linesLaid
-lines-end t f i n h = let q : n - i ≡ 0 = omega arith in rw q
-
-fit-from : (m : ℕ) (f : ℕ → Line) (n i k : ℕ) → T (linesFit m f i n) → k < n → T (lineFits m (f (i + k)))
-unfolding linesFit
-fit-from m f zero i k h l = absurd (not-suc-le-zero l)
-fit-from m f (suc n) i zero h l = rw (add-zero i) (and-T (lineFits m (f i)) (linesFit m f (suc i) n) .0 h .0)
-fit-from m f (suc n) i (suc k) h l =
-    rw (add-suc i k, ← suc-add i k) (fit-from m f n (suc i) k (and-T (lineFits m (f i)) (linesFit m f (suc i) n) .0 h .1) (le-of-suc-le-suc l))
-
 -- what a table's test says
-pub record Fitting (t starts values kinds widths : List ℕ) : Type 0 where
-  pub starts′ : length starts ≡ length kinds + 1
-  pub values′ : length values ≡ length kinds
+pub record Fitting (t starts keys kinds widths : List ℕ) : Type 0 where
+  pub starts′ : length starts ≡ length kinds
+  pub keys′ : length keys ≡ length kinds
   pub widths′ : length widths ≡ length kinds
-  pub last : getD starts (length kinds) 0 ≤ length t
-  pub each : (i : ℕ) → i < length kinds → T (lineFits (length t) (lineOf starts values kinds widths i))
+  pub lines : T (linesFit (length t) (lineOf starts keys kinds widths) 0 0 (length kinds))
 
-module _ (t starts values kinds widths : List ℕ) (fit : T (tableFits t starts values kinds widths)) where
-  pub fitting : Fitting t starts values kinds widths
-  unfolding tableFits
-  fitting =
-      let a = and-T (eqb (length starts) (length kinds + 1)) _ .0 fit in
-      let b = and-T (eqb (length values) (length kinds)) _ .0 (a .1) in
-      let c = and-T (eqb (length widths) (length kinds)) _ .0 (b .1) in
-      let d = and-T (leb (getD starts (length kinds) 0) (length t)) _ .0 (c .1) in
-      record {
-        starts′ = eqb→eq _ _ (a .0);
-        values′ = eqb→eq _ _ (b .0);
-        widths′ = eqb→eq _ _ (c .0);
-        last = leb→le _ _ (d .0);
-        each = λ i h. rw (zero-add i) at (fit-from (length t) (lineOf starts values kinds widths) (length kinds) 0 i (d .1) h);
+pub fitting : (t starts keys kinds widths : List ℕ) → T (tableFits t starts keys kinds widths) → Fitting t starts keys kinds widths
+unfolding tableFits
+fitting t starts keys kinds widths fit =
+    let a = and-T (eqb (length starts) (length kinds)) _ .0 fit in
+    let b = and-T (eqb (length keys) (length kinds)) _ .0 (a .1) in
+    let c = and-T (eqb (length widths) (length kinds)) _ .0 (b .1) in
+    record { starts′ = eqb→eq _ _ (a .0); keys′ = eqb→eq _ _ (b .0); widths′ = eqb→eq _ _ (c .0); lines = c .1 }
+
+-- before the line i of n, where the values end at `from`: what is left fits, and decides the whole
+pub record Turn (t b : List ℕ) (f : ℕ → Line) (n from i : ℕ) : Type 0 where
+  pub fits : T (linesFit (length t) f from i (n - i))
+  pub left : firstBad (linesLaid t f 0 0 n) b 0 ≡ firstBad (linesLaid t f from i (n - i)) b from
+
+pub turn-start : (t b : List ℕ) (f : ℕ → Line) (n : ℕ) → T (linesFit (length t) f 0 0 n) → Turn t b f n 0 0
+turn-start t b f n fit = record { fits = rw (sub-zero n) fit; left = rw (sub-zero n) refl }
+
+module _ (t b : List ℕ) (f : ℕ → Line) (n from i : ℕ) (so : Turn t b f n from i) where
+  pub turn-end : n ≤ i → from ≡ firstBad (linesLaid t f 0 0 n) b 0
+  unfolding linesLaid firstBad
+  turn-end h = let q : n - i ≡ 0 = omega arith in sym (so .left ∙ rw q)
+
+  module _ (h : i < n) where
+    one : n - i ≡ suc (n - (i + 1))
+    one = omega arith
+
+    here-fits : T (lineFits (length t) from (f i)) × T (linesFit (length t) f (behind from (f i)) (i + 1) (n - (i + 1)))
+    unfolding linesFit
+    here-fits = and-T (lineFits (length t) from (f i)) _ .0 (rw (one, ← add-one i) at (so .fits))
+
+    here-laid : linesLaid t f from i (n - i) ≡ lineLaid t from (f i) ++ linesLaid t f (behind from (f i)) (i + 1) (n - (i + 1))
+    unfolding linesLaid
+    here-laid = rw (one, add-one i)
+
+    pub turn-fits : (l : Line) → l ≡ f i → T (lineFits (length t) from l)
+    turn-fits l e = rw e (here-fits .0)
+
+    module _ (l : Line) (e : l ≡ f i) (end r : ℕ) (ends : end ≡ behind from l) (found : r ≡ firstBad (lineLaid t from l) b from) where
+      there : r ≡ firstBad (lineLaid t from (f i)) b from
+      there = rw e at found
+
+      reach : end ≡ from + length (lineLaid t from (f i))
+      reach = ends ∙ rw e (line-end t from (f i) (here-fits .0))
+
+      pub turn-bad : (r ≡ end → ⊥) → r ≡ firstBad (linesLaid t f 0 0 n) b 0
+      turn-bad g = sym (so .left ∙ rw here-laid (after-bad (lineLaid t from (f i)) _ b from end reach (λ q. g (there ∙ q)) ∙ sym there))
+
+      pub turn-good : r ≡ end → Turn t b f n end (i + 1)
+      turn-good g = record {
+        fits = rw (ends, e) (here-fits .1);
+        left = so .left ∙ rw here-laid (after-good (lineLaid t from (f i)) _ b from end reach (sym there ∙ g) ∙ rw (ends, e));
       }
-
-  -- before the first turn
-  pub turn-start : (b : List ℕ) (p : ℕ)
-      → firstBad (tableLaid t starts values kinds widths) b p ≡ firstBad (linesLaid t (lineOf starts values kinds widths) 0 (length kinds - 0)) b p
-  unfolding tableLaid
-  turn-start b p = let q : length kinds - 0 ≡ length kinds = omega arith in rw q
-
-  -- the line that a turn looks at fits
-  pub turn-fits : (i : ℕ) (l : Line) → i < length kinds → l ≡ lineOf starts values kinds widths i → T (lineFits (length t) l)
-  turn-fits i l h e = rw e (fitting .each i h)
-
-  module _ (b : List ℕ) (at i : ℕ)
-      (so : firstBad (tableLaid t starts values kinds widths) b (at + getD starts 0 0) ≡ firstBad (linesLaid t (lineOf starts values kinds widths) i (length kinds - i)) b (at + getD starts i 0)) where
-    pub turn-end : length kinds ≤ i → at + getD starts i 0 ≡ firstBad (tableLaid t starts values kinds widths) b (at + getD starts 0 0)
-    unfolding firstBad
-    turn-end h = sym (so ∙ rw (lines-end t (lineOf starts values kinds widths) i (length kinds) h))
-
-    module _ (h : i < length kinds) (l : Line) (e : l ≡ lineOf starts values kinds widths i) (r : ℕ) (found : r ≡ firstBad (lineLaid t l) b (at + l .start)) where
-      here : r ≡ firstBad (lineLaid t (lineOf starts values kinds widths i)) b (at + getD starts i 0)
-      unfolding lineOf
-      here = rw e at found
-
-      reach : at + getD starts (i + 1) 0 ≡ at + getD starts i 0 + length (lineLaid t (lineOf starts values kinds widths i))
-      unfolding lineOf
-      reach = line-end t at (lineOf starts values kinds widths i) (fitting .each i h)
-
-      ends : at + l .end ≡ at + getD starts (i + 1) 0
-      unfolding lineOf
-      ends = rw e
-
-      pub turn-bad : (r ≡ at + l .end → ⊥) → r ≡ firstBad (tableLaid t starts values kinds widths) b (at + getD starts 0 0)
-      turn-bad g =
-          sym (so ∙ rw (lines-step t (lineOf starts values kinds widths) i (length kinds) h)
-          (after-bad (lineLaid t (lineOf starts values kinds widths i)) _ b (at + getD starts i 0) (at + getD starts (i + 1) 0) reach (λ q. g (here ∙ q ∙ sym ends)) ∙ sym here))
-
-      pub turn-good : r ≡ at + l .end
-          → firstBad (tableLaid t starts values kinds widths) b (at + getD starts 0 0)
-          ≡ firstBad (linesLaid t (lineOf starts values kinds widths) (i + 1) (length kinds - (i + 1))) b (at + getD starts (i + 1) 0)
-      turn-good g =
-          so ∙ rw (lines-step t (lineOf starts values kinds widths) i (length kinds) h)
-          (after-good (lineLaid t (lineOf starts values kinds widths i)) _ b (at + getD starts i 0) (at + getD starts (i + 1) 0) reach (sym here ∙ g ∙ ends))

@@ -1,4 +1,4 @@
--- The laws of the first bad place: one span after another, and the turns of the span loops.
+-- The laws of the first bad place: one span after another, and a span as a search.
 -- Assumes nothing.
 use Prim.Native.Nat.{ℕ, zero, suc, _+_, _-_, _≤_, _<_}
 use mathlib.Core.Bool.{Bool, true, false, cond, not, _||_}
@@ -14,7 +14,8 @@ use Rattle.layout.specs.Bytes.{part, byteAt}
 use Rattle.layout.specs.Text.{Class, exactly, fits, literal}
 use Rattle.layout.specs.Search.{find}
 use Rattle.text.specs.Blanks.{notBlank}
-use Rattle.lines.specs.Table.{firstBad}
+use Rattle.text.specs.LineEnds.{fails}
+use Rattle.lines.specs.Table.{firstBad, differs}
 
 -- the last test of several
 pub or-false : (t : Bool) → t ≡ (t || false)
@@ -66,63 +67,52 @@ pub here-bad : (k : Class) (ks : List Class) (b : List ℕ) (p : ℕ) → fits k
 unfolding firstBad byteAt
 here-bad k ks b p h = rw h
 
--- ---- a span of one class: the turns of its loop
+-- ---- a span as a search for the first bad byte
 
-replicate-step : (k : Class) (i to : ℕ) → i < to → replicate (to - i) k ≡ k ∷ replicate (to - (i + 1)) k
-replicate-step k i to h = let e : to - i ≡ suc (to - (i + 1)) = omega arith in rw e
+other : (u : Bool) (rest here : ℕ) → cond (not u) here rest ≡ cond u rest here
+other true rest here = refl
+other false rest here = refl
 
-replicate-end : (k : Class) (i to : ℕ) → to ≤ i → replicate (to - i) k ≡ []
-replicate-end k i to h = let e : to - i ≡ 0 = omega arith in rw e
-
-module _ (k : Class) (b : List ℕ) (from to i : ℕ) (so : firstBad (replicate (to - from) k) b from ≡ firstBad (replicate (to - i) k) b i) where
-  pub span-bad : i < to → fits k (getD b i 0) ≡ false → i ≡ firstBad (replicate (to - from) k) b from
-  span-bad h e = sym (so ∙ rw (replicate-step k i to h) (here-bad k _ b i e))
-
-  pub span-good : i < to → fits k (getD b i 0) ≡ true → firstBad (replicate (to - from) k) b from ≡ firstBad (replicate (to - (i + 1)) k) b (i + 1)
-  span-good h e = so ∙ rw (replicate-step k i to h) (here-good k _ b i e)
-
-  pub span-end : i ≤ to → to ≤ i → to ≡ firstBad (replicate (to - from) k) b from
-  unfolding firstBad
-  span-end h l = let q : to ≡ i = omega arith in sym (so ∙ rw (replicate-end k i to l) (sym q))
-
--- ---- a span of a template: the turns of its loop
-
-literal-step : (t : List ℕ) (i to : ℕ) → i < to → to ≤ length t → literal (part t i (to - i)) ≡ exactly (getD t i 0) ∷ literal (part t (i + 1) (to - (i + 1)))
+part-none : (t : List ℕ) (at : ℕ) → part t at 0 ≡ []
 unfolding part
-literal-step t i to h l = let e : to - i ≡ suc (to - (i + 1)) = omega arith in rw (e, drop-cons t i 0 (omega arith), add-one i)
+part-none t at = refl
 
-literal-end : (t : List ℕ) (i to : ℕ) → to ≤ i → literal (part t i (to - i)) ≡ []
-unfolding part
-literal-end t i to h = let e : to - i ≡ 0 = omega arith in rw e
+pub run-bad : (k : Class) (b : List ℕ) (p n : ℕ) → find (fails (fits k) b) p n ≡ firstBad (replicate n k) b p
+unfolding find firstBad fails
+run-bad k b p zero = refl
+run-bad k b p (suc n) = rw (run-bad k b (suc p) n) (other (fits k (byteAt b p)) (firstBad (replicate n k) b (suc p)) p)
+
+pub blanks-bad : (b : List ℕ) (p n : ℕ) → find (notBlank b) p n ≡ firstBad (replicate n (exactly 32)) b p
+unfolding notBlank fails fits
+blanks-bad b p n = run-bad (exactly 32) b p n
 
 pub length-literal : (xs : List ℕ) → length (literal xs) ≡ length xs
 length-literal [] = refl
 length-literal (x ∷ xs) = ap suc (length-literal xs)
 
-module _ (t b : List ℕ) (at from to i : ℕ)
-    (so : firstBad (literal (part t from (to - from))) b (at + from) ≡ firstBad (literal (part t i (to - i))) b (at + i)) where
-  pub literal-bad : i < to → to ≤ length t → (getD b (at + i) 0 ≡ getD t i 0 → ⊥) → at + i ≡ firstBad (literal (part t from (to - from))) b (at + from)
-  unfolding fits
-  literal-bad h l e = sym (so ∙ rw (literal-step t i to h l) (here-bad (exactly (getD t i 0)) _ b (at + i) (ne-eqb _ _ e)))
+part-suc : (t : List ℕ) (at n : ℕ) → at < length t → part t at (suc n) ≡ getD t at 0 ∷ part t (suc at) n
+unfolding part
+part-suc t at n h = rw (drop-cons t at 0 h)
 
-  pub literal-good : i < to → to ≤ length t → getD b (at + i) 0 ≡ getD t i 0
-      → firstBad (literal (part t from (to - from))) b (at + from) ≡ firstBad (literal (part t (i + 1) (to - (i + 1)))) b (at + (i + 1))
-  unfolding fits
-  literal-good h l e =
-      let q : at + i + 1 ≡ at + (i + 1) = omega arith in
-      so ∙ rw (literal-step t i to h l) (here-good (exactly (getD t i 0)) _ b (at + i) (eq-eqb _ _ e) ∙ rw q)
+pub literal-bad : (t b : List ℕ) (p n : ℕ) → p + n ≤ length t → find (differs t b) p n ≡ firstBad (literal (part t p n)) b p
+unfolding find firstBad differs fits byteAt
+literal-bad t b p zero h = rw (part-none t p)
+literal-bad t b p (suc n) h = rw (part-suc t p n (omega arith), literal-bad t b (suc p) n (omega arith)) (other (eqb (getD b p 0) (getD t p 0)) (firstBad (literal (part t (suc p) n)) b (suc p)) p)
 
-  pub literal-none : i ≤ to → to ≤ i → at + to ≡ firstBad (literal (part t from (to - from))) b (at + from)
-  unfolding firstBad
-  literal-none h l = let q : at + to ≡ at + i = omega arith in sym (so ∙ rw (literal-end t i to l) (sym q))
+-- a byte against the template's
+module _ (t b : List ℕ) (i : ℕ) where
+  pub same-test : eqb (getD b i 0) (getD t i 0) ≡ not (differs t b i)
+  unfolding differs byteAt
+  same-test = go (eqb (getD b i 0) (getD t i 0))
+    where
+      go : (u : Bool) → u ≡ not (not u)
+      go true = refl
+      go false = refl
 
--- ---- blanks: the search for the first byte that is not one
+  pub is-same : getD b i 0 ≡ getD t i 0 → differs t b i ≡ false
+  unfolding differs byteAt
+  is-same e = rw (eq-eqb (getD b i 0) (getD t i 0) e)
 
-pub blanks-bad : (b : List ℕ) (p n : ℕ) → find (notBlank b) p n ≡ firstBad (replicate n (exactly 32)) b p
-unfolding find firstBad fits notBlank
-blanks-bad b p zero = refl
-blanks-bad b p (suc n) = rw (blanks-bad b (suc p) n) (go (eqb (byteAt b p) 32))
-  where
-    go : (t : Bool) → cond (not t) p (firstBad (replicate n (exactly 32)) b (suc p)) ≡ cond t (firstBad (replicate n (exactly 32)) b (suc p)) p
-    go true = refl
-    go false = refl
+  pub not-same : (getD b i 0 ≡ getD t i 0 → ⊥) → differs t b i ≡ true
+  unfolding differs byteAt
+  not-same e = rw (ne-eqb (getD b i 0) (getD t i 0) e)

@@ -1,18 +1,22 @@
 -- The first byte that is not as laid out, by place; and the layout that a table of lines and a template of literal bytes give.
 -- Assumes nothing.
 use Prim.Native.Nat.{ℕ, zero, suc, _+_, _-_}
-use mathlib.Core.Bool.{Bool, true, cond, _&&_}
+use mathlib.Core.Bool.{Bool, true, cond, _&&_, not}
 use mathlib.Core.List.{List, [], _∷_, _++_}
 use lib.Dec.{leb, eqb}
 use lib.ListN.{length, getD, replicate}
 use Rattle.layout.specs.Bytes.{bytes, part, byteAt}
-use Rattle.layout.specs.Text.{Class, plain, among, fits, spare, s, sAB, literal, valueClasses, lineClasses}
+use Rattle.layout.specs.Text.{Class, plain, among, fits, s, sAB, literal, valueClasses}
 use Rattle.lines.specs.declared.Line.{Line}
 
 -- the first place from p on whose byte is not of its class; the place behind the classes where each is
 unfoldable pub firstBad : List Class → List ℕ → ℕ → ℕ
 firstBad [] b p = p
 firstBad (k ∷ ks) b p = cond (fits k (byteAt b p)) (firstBad ks b (suc p)) p
+
+-- the byte at a place is not the template's
+unfoldable pub differs : List ℕ → List ℕ → ℕ → Bool
+differs t b i = not (eqb (byteAt b i) (byteAt t i))
 
 -- the value's classes by its kind and width: q text, f a flag, t a type, s a whole number, m a number with three decimals, else with six
 unfoldable pub valueLaid : ℕ → ℕ → List Class
@@ -32,43 +36,36 @@ widthFits k w =
     (cond (eqb k 115) (leb 1 w)
     (cond (eqb k 109) (leb 5 w) (leb 8 w)))))
 
--- a named line is the template's bytes before the value, the value, and the template's bytes behind it; a spare is blanks and byte 10
-unfoldable pub namedLaid : List ℕ → Line → List Class
-namedLaid t l =
-    literal (part t (l .start) (l .value - l .start))
-    ++ (valueLaid (l .kind) (l .width) ++ literal (part t (l .value + l .width) (l .end - (l .value + l .width))))
+-- where the values so far end, behind one line more; a spare has none
+unfoldable pub behind : ℕ → Line → ℕ
+behind from l = cond (eqb (l .kind) 32) from (l .value + l .width)
 
-unfoldable pub lineLaid : List ℕ → Line → List Class
-lineLaid t l = cond (eqb (l .kind) 32) (lineClasses (spare (l .width))) (namedLaid t l)
+-- a line, with what no value took before it: the template's bytes from there up to the value, and the value. A spare is left to the next line
+unfoldable pub lineLaid : List ℕ → ℕ → Line → List Class
+lineLaid t from l = cond (eqb (l .kind) 32) [] (literal (part t from (l .value - from)) ++ valueLaid (l .kind) (l .width))
 
--- the parts of a line follow one another, and end inside a template of m bytes
-unfoldable pub namedFits : Line → Bool
-namedFits l = leb (l .start) (l .value) && (leb (l .value + l .width) (l .end) && widthFits (l .kind) (l .width))
-
-unfoldable pub lineFits : ℕ → Line → Bool
-lineFits m l = leb (l .end) m && cond (eqb (l .kind) 32) (eqb (l .end) (l .start + l .width + 1)) (namedFits l)
+-- these follow one another, and end inside a template of m bytes
+unfoldable pub lineFits : ℕ → ℕ → Line → Bool
+lineFits m from l = cond (eqb (l .kind) 32) true (leb from (l .value) && (leb (l .value + l .width) m && widthFits (l .kind) (l .width)))
 
 -- the line that the columns of a table give
 unfoldable pub lineOf : List ℕ → List ℕ → List ℕ → List ℕ → ℕ → Line
-lineOf starts values kinds widths i =
-    record { start = getD starts i 0; value = getD values i 0; kind = getD kinds i 0; width = getD widths i 0; end = getD starts (i + 1) 0 }
+lineOf starts keys kinds widths i = record { value = getD starts i 0 + getD keys i 0; kind = getD kinds i 0; width = getD widths i 0 }
 
--- the n lines from the line i on
-unfoldable pub linesLaid : List ℕ → (ℕ → Line) → ℕ → ℕ → List Class
-linesLaid t f i zero = []
-linesLaid t f i (suc n) = lineLaid t (f i) ++ linesLaid t f (suc i) n
+-- the n lines from the line i on, with what no value took from `from` on
+unfoldable pub linesLaid : List ℕ → (ℕ → Line) → ℕ → ℕ → ℕ → List Class
+linesLaid t f from i zero = []
+linesLaid t f from i (suc n) = lineLaid t from (f i) ++ linesLaid t f (behind from (f i)) (suc i) n
 
-unfoldable pub linesFit : ℕ → (ℕ → Line) → ℕ → ℕ → Bool
-linesFit m f i zero = true
-linesFit m f i (suc n) = lineFits m (f i) && linesFit m f (suc i) n
+unfoldable pub linesFit : ℕ → (ℕ → Line) → ℕ → ℕ → ℕ → Bool
+linesFit m f from i zero = true
+linesFit m f from i (suc n) = lineFits m from (f i) && linesFit m f (behind from (f i)) (suc i) n
 
--- a table, by its template and columns: the layout that it gives, and the test that it has to pass. The starts have one more, the end
+-- a table, by its template and columns: the layout that it gives, and the test that it has to pass
 unfoldable pub tableLaid : List ℕ → List ℕ → List ℕ → List ℕ → List ℕ → List Class
-tableLaid t starts values kinds widths = linesLaid t (lineOf starts values kinds widths) 0 (length kinds)
+tableLaid t starts keys kinds widths = linesLaid t (lineOf starts keys kinds widths) 0 0 (length kinds)
 
 unfoldable pub tableFits : List ℕ → List ℕ → List ℕ → List ℕ → List ℕ → Bool
-tableFits t starts values kinds widths =
-    eqb (length starts) (length kinds + 1)
-    && (eqb (length values) (length kinds)
-    && (eqb (length widths) (length kinds)
-    && (leb (getD starts (length kinds) 0) (length t) && linesFit (length t) (lineOf starts values kinds widths) 0 (length kinds))))
+tableFits t starts keys kinds widths =
+    eqb (length starts) (length kinds)
+    && (eqb (length keys) (length kinds) && (eqb (length widths) (length kinds) && linesFit (length t) (lineOf starts keys kinds widths) 0 0 (length kinds)))

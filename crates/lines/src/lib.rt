@@ -1,16 +1,18 @@
 // The check of header lines against the layout of document 01, "Header text": the first byte that is not as laid out.
-// It goes line by line through a constant table, and within a line span by span: the literal bytes before the value, the value, those behind it.
+// It goes line by line through a constant table, and span by span: the literal bytes from the last value on, spare lines among them, and the value.
 ghost use mathlib.Core.Path.{_≡_};
 ghost use Prim.Native.Nat.{ℕ, _+_, _-_, _≤_, _<_};
+ghost use mathlib.Core.Bool.{not};
 ghost use lib.Dec.{T, eqb};
-ghost use lib.ListN.{length, getD, replicate};
+ghost use lib.ListN.{length};
 ghost use Rattle.layout.specs.Bytes.{bytes, part};
 ghost use Rattle.layout.specs.Answer.{need};
 ghost use Rattle.layout.specs.Lines.{mph};
 ghost use Rattle.layout.specs.Rules.{linesOf};
-ghost use Rattle.layout.specs.Search.{laidOut};
-ghost use Rattle.layout.specs.Text.{layout, plain, sign, digit, among, fits, spare, s, sAB, literal, valueClasses, lineClasses};
-ghost use Rattle.lines.specs.Table.{firstBad, valueLaid, widthFits, lineLaid, lineFits, lineOf, tableLaid, tableFits};
+ghost use Rattle.layout.specs.Search.{some, laidOut};
+ghost use Rattle.layout.specs.Text.{layout, sign, among, fits, spare, s, sAB, literal, valueClasses, lineClasses};
+ghost use Rattle.text.specs.Runs.{Skipped};
+ghost use Rattle.lines.specs.Table.{firstBad, differs, valueLaid, widthFits, behind, lineLaid, lineFits, lineOf, tableLaid, tableFits};
 
 // The kinds of a table, after the notation of document 01: a spare; text, of q or c; a flag, 0 or 1; a type, one of M A G R; a sign and digits, s;
 // the same with a point and three decimals, or (u, the one kind left) six.
@@ -26,8 +28,8 @@ const WHOLE: u8 = b's';
 
 const THOUSANDTHS: u8 = b'm';
 
-// The forty-one lines of the main header, by column: where each line begins, and the end; where its value begins; the value's kind and width.
-// Of a spare the width is its blanks.
+// The forty-one lines of the main header, by column: where each line begins, the bytes before its value, the value's kind and width.
+// Of a spare the width is its blanks. The last row is the end, where a text of no bytes stands.
 const MPH_STARTS: [u16; 42] = [
     0,
     73,
@@ -73,53 +75,54 @@ const MPH_STARTS: [u16; 42] = [
     1247,
 ];
 
-const MPH_VALUES: [u16; 41] = [
+const MPH_KEYS: [u8; 42] = [
     9,
-    84,
-    95,
-    120,
-    182,
-    217,
-    236,
-    279,
-    295,
-    351,
-    394,
-    423,
-    470,
-    478,
-    493,
-    510,
-    536,
-    575,
-    598,
-    625,
-    652,
-    679,
-    708,
-    737,
-    770,
-    774,
-    829,
-    874,
-    897,
-    913,
-    956,
-    995,
-    1009,
-    1011,
-    1064,
-    1075,
-    1113,
-    1140,
-    1161,
-    1194,
-    1206,
+    11,
+    9,
+    0,
+    21,
+    13,
+    11,
+    14,
+    0,
+    15,
+    14,
+    0,
+    6,
+    6,
+    10,
+    10,
+    19,
+    10,
+    11,
+    11,
+    11,
+    11,
+    11,
+    11,
+    15,
+    0,
+    14,
+    16,
+    11,
+    0,
+    10,
+    10,
+    9,
+    0,
+    12,
+    9,
+    9,
+    8,
+    9,
+    14,
+    0,
+    0,
 ];
 
-const MPH_KINDS: [u8; 41] = *b"qqq qqqq qq qsssqummmuuuq qss qsf fsssss ";
+const MPH_KINDS: [u8; 42] = *b"qqq qqqq qq qsssqummmuuuq qss qsf fsssss q";
 
-const MPH_WIDTHS: [u8; 41] = [
+const MPH_WIDTHS: [u8; 42] = [
     62,
     1,
     23,
@@ -161,101 +164,79 @@ const MPH_WIDTHS: [u8; 41] = [
     11,
     11,
     40,
+    0,
 ];
 
-// The main header's literal bytes; a filler stands for each value.
+// The main header's literal bytes; a filler stands for each value. (The fillers differ from byte to byte: a run of equal bytes is slower to set up.)
 const MPH_TEMPLATE: [u8; 1247] = *b"\
-    PRODUCT=\"                                                              \"\n\
+    PRODUCT=\"01234567890123456789012345678901234567890123456789012345678901\"\n\
     PROC_STAGE= \n\
-    REF_DOC=\"                       \"\n\
+    REF_DOC=\"01234567890123456789012\"\n\
     \x20                                       \n\
-    ACQUISITION_STATION=\"                    \"\n\
-    PROC_CENTER=\"      \"\n\
-    PROC_TIME=\"                           \"\n\
-    SOFTWARE_VER=\"              \"\n\
+    ACQUISITION_STATION=\"01234567890123456789\"\n\
+    PROC_CENTER=\"012345\"\n\
+    PROC_TIME=\"012345678901234567890123456\"\n\
+    SOFTWARE_VER=\"01234567890123\"\n\
     \x20                                       \n\
-    SENSING_START=\"                           \"\n\
-    SENSING_STOP=\"                           \"\n\
+    SENSING_START=\"012345678901234567890123456\"\n\
+    SENSING_STOP=\"012345678901234567890123456\"\n\
     \x20                                       \n\
     PHASE= \n\
-    CYCLE=+000\n\
-    REL_ORBIT=+00000\n\
-    ABS_ORBIT=+00000\n\
-    STATE_VECTOR_TIME=\"                           \"\n\
-    DELTA_UT1=+.000000<s>\n\
-    X_POSITION=+0000000.000<m>\n\
-    Y_POSITION=+0000000.000<m>\n\
-    Z_POSITION=+0000000.000<m>\n\
-    X_VELOCITY=+0000.000000<m/s>\n\
-    Y_VELOCITY=+0000.000000<m/s>\n\
-    Z_VELOCITY=+0000.000000<m/s>\n\
-    VECTOR_SOURCE=\"  \"\n\
+    CYCLE=+123\n\
+    REL_ORBIT=+12345\n\
+    ABS_ORBIT=+12345\n\
+    STATE_VECTOR_TIME=\"012345678901234567890123456\"\n\
+    DELTA_UT1=+.123456<s>\n\
+    X_POSITION=+1234567.890<m>\n\
+    Y_POSITION=+1234567.890<m>\n\
+    Z_POSITION=+1234567.890<m>\n\
+    X_VELOCITY=+1234.567890<m/s>\n\
+    Y_VELOCITY=+1234.567890<m/s>\n\
+    Z_VELOCITY=+1234.567890<m/s>\n\
+    VECTOR_SOURCE=\"01\"\n\
     \x20                                       \n\
-    UTC_SBT_TIME=\"                           \"\n\
-    SAT_BINARY_TIME=+0000000000\n\
-    CLOCK_STEP=+0000000000<ps>\n\
+    UTC_SBT_TIME=\"012345678901234567890123456\"\n\
+    SAT_BINARY_TIME=+1234567890\n\
+    CLOCK_STEP=+1234567890<ps>\n\
     \x20                               \n\
-    LEAP_UTC=\"                           \"\n\
-    LEAP_SIGN=+000\n\
+    LEAP_UTC=\"012345678901234567890123456\"\n\
+    LEAP_SIGN=+123\n\
     LEAP_ERR=0\n\
     \x20                                       \n\
     PRODUCT_ERR=0\n\
-    TOT_SIZE=+00000000000000000000<bytes>\n\
-    SPH_SIZE=+0000000000<bytes>\n\
-    NUM_DSD=+0000000000\n\
-    DSD_SIZE=+0000000000<bytes>\n\
-    NUM_DATA_SETS=+0000000000\n\
+    TOT_SIZE=+12345678901234567890<bytes>\n\
+    SPH_SIZE=+1234567890<bytes>\n\
+    NUM_DSD=+1234567890\n\
+    DSD_SIZE=+1234567890<bytes>\n\
+    NUM_DATA_SETS=+1234567890\n\
     \x20                                       \n\
 ";
 
 // One DSD, by the same columns.
 const DSD_STARTS: [u16; 9] = [0, 39, 49, 123, 162, 199, 219, 247, 280];
 
-const DSD_VALUES: [u16; 8] = [9, 47, 59, 133, 170, 207, 228, 247];
+const DSD_KEYS: [u8; 9] = [9, 8, 10, 10, 8, 8, 9, 0, 0];
 
-const DSD_KINDS: [u8; 8] = *b"qtqssss ";
+const DSD_KINDS: [u8; 9] = *b"qtqssss q";
 
-const DSD_WIDTHS: [u8; 8] = [28, 1, 62, 21, 21, 11, 11, 32];
+const DSD_WIDTHS: [u8; 9] = [28, 1, 62, 21, 21, 11, 11, 32, 0];
 
 const DSD_TEMPLATE: [u8; 280] = *b"\
-    DS_NAME=\"                            \"\n\
+    DS_NAME=\"0123456789012345678901234567\"\n\
     DS_TYPE=M\n\
-    FILENAME=\"                                                              \"\n\
-    DS_OFFSET=+00000000000000000000<bytes>\n\
-    DS_SIZE=+00000000000000000000<bytes>\n\
-    NUM_DSR=+0000000000\n\
-    DSR_SIZE=+0000000000<bytes>\n\
+    FILENAME=\"01234567890123456789012345678901234567890123456789012345678901\"\n\
+    DS_OFFSET=+12345678901234567890<bytes>\n\
+    DS_SIZE=+12345678901234567890<bytes>\n\
+    NUM_DSR=+1234567890\n\
+    DSR_SIZE=+1234567890<bytes>\n\
     \x20                               \n\
 ";
 
-// One line of a table: its first byte, its value's first byte, the value's kind and width (of a spare, its blanks), and the line's end.
+// One line of a table: its value's first byte, kind and width (of a spare, its blanks).
 struct Line {
-    start: usize,
     value: usize,
     kind: u8,
     width: usize,
-    end: usize,
-}
-
-fn is_plain(x: u8) -> bool
-    ensures { λ r. ⌜ r ≡ fits plain x ⌝ }
-{
-    if x < 32 {
-        return false;
-    }
-    if 126 < x {
-        return false;
-    }
-    x != 34
-}
-
-fn is_digit(x: u8) -> bool
-    ensures { λ r. ⌜ r ≡ fits digit x ⌝ }
-{
-    if x < 48 {
-        return false;
-    }
-    x <= 57
 }
 
 fn is_sign(x: u8) -> bool
@@ -291,48 +272,54 @@ fn is_type(x: u8) -> bool
     x == b'R'
 }
 
-// Each span answers its first byte that is not as laid out, or its end.
-fn text_span(p: &[u8], from: usize, to: usize) -> usize
-    requires { ⌜ (from ≤ to) × (to ≤ length (now p)) ⌝ }
-    ensures { λ r. ⌜ r ≡ firstBad (replicate (to - from) plain) (now (p .entry)) from ⌝ }
+// The bytes of `p` against the template's: some of them as a whole, without an exit, so that they are compared side by side.
+fn literal_in(p: &[u8], template: &[u8], at: usize, n: usize) -> bool
+    requires { ⌜ (at + n ≤ length (now template)) × (at + n ≤ length (now p)) ⌝ }
+    ensures { λ r. ⌜ r ≡ not (some (differs (now (template .entry)) (now (p .entry))) at n) ⌝ }
 {
+    let mut all = true;
+    let mut i = 0;
+    while i < n {
+        all = all & (p[at + i] == template[at + i]);
+        i += 1;
+    }
+    all
+}
+
+// A place up to which they agree, by blocks, the last of which ends with the span.
+fn literal_blocks(p: &[u8], template: &[u8], from: usize, to: usize) -> usize
+    requires { ⌜ (from ≤ to) × (to ≤ length (now template)) × (to ≤ length (now p)) ⌝ }
+    ensures { λ r. ⌜ Skipped (differs (now (template .entry)) (now (p .entry))) from to r ⌝ }
+{
+    if to - from < 8 {
+        return from;
+    }
     let mut i = from;
+    while 8 < to - i {
+        if !literal_in(p, template, i, 8) {
+            return i;
+        }
+        i += 8;
+    }
+    if literal_in(p, template, to - 8, 8) {
+        return to;
+    }
+    i
+}
+
+// The first byte of a span that is not as laid out, or its end.
+fn literal_span(p: &[u8], template: &[u8], from: usize, to: usize) -> usize
+    requires { ⌜ (from ≤ to) × (to ≤ length (now template)) × (to ≤ length (now p)) ⌝ }
+    ensures { λ r. ⌜ r ≡ firstBad (literal (part (now (template .entry)) from (to - from))) (now (p .entry)) from ⌝ }
+{
+    let mut i = literal_blocks(p, template, from, to);
     while i < to {
-        if !is_plain(p[i]) {
+        if p[i] != template[i] {
             return i;
         }
         i += 1;
     }
     to
-}
-
-fn digit_span(p: &[u8], from: usize, to: usize) -> usize
-    requires { ⌜ (from ≤ to) × (to ≤ length (now p)) ⌝ }
-    ensures { λ r. ⌜ r ≡ firstBad (replicate (to - from) digit) (now (p .entry)) from ⌝ }
-{
-    let mut i = from;
-    while i < to {
-        if !is_digit(p[i]) {
-            return i;
-        }
-        i += 1;
-    }
-    to
-}
-
-// The bytes of `p` from `at` on against the template's, in `from..to` of the template.
-fn literal_span(p: &[u8], at: usize, template: &[u8], from: usize, to: usize) -> usize
-    requires { ⌜ (from ≤ to) × (to ≤ length (now template)) × (at + to ≤ length (now p)) ⌝ }
-    ensures { λ r. ⌜ r ≡ firstBad (literal (part (now (template .entry)) from (to - from))) (now (p .entry)) (at + from) ⌝ }
-{
-    let mut i = from;
-    while i < to {
-        if p[at + i] != template[i] {
-            return at + i;
-        }
-        i += 1;
-    }
-    at + to
 }
 
 // A spare line: so many blanks and byte 10.
@@ -359,7 +346,7 @@ fn whole_check(p: &[u8], from: usize, to: usize) -> usize
     if !is_sign(p[from]) {
         return from;
     }
-    digit_span(p, from + 1, to)
+    text::first_not_digit(p, from + 1, to)
 }
 
 // A sign, digits, a point and digits.
@@ -374,7 +361,7 @@ fn decimal_check(p: &[u8], from: usize, point: usize, to: usize) -> usize
     if p[point] != b'.' {
         return point;
     }
-    digit_span(p, point + 1, to)
+    text::first_not_digit(p, point + 1, to)
 }
 
 fn value_check(p: &[u8], from: usize, kind: u8, to: usize) -> usize
@@ -382,7 +369,7 @@ fn value_check(p: &[u8], from: usize, kind: u8, to: usize) -> usize
     ensures { λ r. ⌜ r ≡ firstBad (valueLaid kind (to - from)) (now (p .entry)) from ⌝ }
 {
     if kind == TEXT {
-        return text_span(p, from, to);
+        return text::first_not_plain(p, from, to);
     }
     if kind == FLAG {
         if is_flag(p[from]) {
@@ -405,77 +392,81 @@ fn value_check(p: &[u8], from: usize, kind: u8, to: usize) -> usize
     decimal_check(p, from, to - 7, to)
 }
 
-// One line of a header that begins at `at`.
-fn line_check(p: &[u8], at: usize, template: &[u8], line: Line) -> usize
-    requires { ⌜ T (lineFits (length (now template)) line) × (at + line .end ≤ length (now p)) ⌝ }
-    ensures { λ r. ⌜ r ≡ firstBad (lineLaid (now (template .entry)) line) (now (p .entry)) (at + line .start) ⌝ }
+// Where the values so far end, behind one line more.
+fn line_end(line: Line, from: usize) -> usize
+    requires { ⌜ line .value + line .width < 66048 ⌝ }
+    ensures { λ r. ⌜ r ≡ behind from line ⌝ }
 {
-    let start = line.start;
-    let value = line.value;
-    let width = line.width;
     if line.kind == SPARE {
-        return spare_check(p, at + start, width);
+        return from;
     }
-    let before = literal_span(p, at, template, start, value);
-    if before != at + value {
-        return before;
+    line.value + line.width
+}
+
+// One line: the literal bytes from the last value on, and the value. A spare is left to the next line's literal bytes.
+fn line_check(p: &[u8], template: &[u8], from: usize, line: Line) -> usize
+    requires { ⌜ T (lineFits (length (now template)) from line) × (length (now template) ≤ length (now p)) ⌝ }
+    ensures { λ r. ⌜ r ≡ firstBad (lineLaid (now (template .entry)) from line) (now (p .entry)) from ⌝ }
+{
+    if line.kind == SPARE {
+        return from;
     }
-    let behind = value + width;
-    let bad = value_check(p, at + value, line.kind, at + behind);
-    if bad != at + behind {
+    let value = line.value;
+    let bad = literal_span(p, template, from, value);
+    if bad != value {
         return bad;
     }
-    literal_span(p, at, template, behind, line.end)
+    value_check(p, value, line.kind, value + line.width)
 }
 
 fn wide8(x: u8) -> usize
-    ensures { λ r. ⌜ r ≡ x ⌝ }
+    ensures { λ r. ⌜ (r ≡ x) × (r < 256) ⌝ }
 {
     x as usize
 }
 
 fn wide16(x: u16) -> usize
-    ensures { λ r. ⌜ r ≡ x ⌝ }
+    ensures { λ r. ⌜ (r ≡ x) × (r < 65536) ⌝ }
 {
     x as usize
 }
 
-fn line_at(starts: &[u16], values: &[u16], kinds: &[u8], widths: &[u8], i: usize) -> Line
-    requires { ⌜ (i + 1 < length (now starts)) × (i < length (now values)) × (i < length (now kinds)) × (i < length (now widths)) ⌝ }
-    ensures { λ r. ⌜ r ≡ lineOf (now (starts .entry)) (now (values .entry)) (now (kinds .entry)) (now (widths .entry)) i ⌝ }
+fn line_at(starts: &[u16], keys: &[u8], kinds: &[u8], widths: &[u8], i: usize) -> Line
+    requires { ⌜ (i < length (now starts)) × (i < length (now keys)) × (i < length (now kinds)) × (i < length (now widths)) ⌝ }
+    ensures { λ r. ⌜ (r ≡ lineOf (now (starts .entry)) (now (keys .entry)) (now (kinds .entry)) (now (widths .entry)) i) × (r .value + r .width < 66048) ⌝ }
 {
     Line {
-        start: wide16(starts[i]),
-        value: wide16(values[i]),
+        value: wide16(starts[i]) + wide8(keys[i]),
         kind: kinds[i],
         width: wide8(widths[i]),
-        end: wide16(starts[i + 1]),
     }
 }
 
-// The lines of a table, in a header that begins at `at`.
+// The lines of a table, in the header `p`.
 fn lines_check(
     p: &[u8],
-    at: usize,
     template: &[u8],
     starts: &[u16],
-    values: &[u16],
+    keys: &[u8],
     kinds: &[u8],
     widths: &[u8],
 ) -> usize
-    requires { ⌜ T (tableFits (now template) (now starts) (now values) (now kinds) (now widths)) × (at + length (now template) ≤ length (now p)) ⌝ }
-    ensures { λ r. ⌜ r ≡ firstBad (tableLaid (now (template .entry)) (now (starts .entry)) (now (values .entry)) (now (kinds .entry)) (now (widths .entry))) (now (p .entry)) (at + getD (now (starts .entry)) 0 0) ⌝ }
+    requires { ⌜ T (tableFits (now template) (now starts) (now keys) (now kinds) (now widths)) × (length (now template) ≤ length (now p)) ⌝ }
+    ensures { λ r. ⌜ r ≡ firstBad (tableLaid (now (template .entry)) (now (starts .entry)) (now (keys .entry)) (now (kinds .entry)) (now (widths .entry))) (now (p .entry)) 0 ⌝ }
 {
+    let mut from = 0;
     let mut i = 0;
     while i < kinds.len() {
-        let line = line_at(starts, values, kinds, widths, i);
-        let bad = line_check(p, at, template, line);
-        if bad != at + line.end {
+        let line = line_at(starts, keys, kinds, widths, i);
+        let end = line_end(line, from);
+        let bad = line_check(p, template, from, line);
+        if bad != end {
             return bad;
         }
+        from = end;
         i += 1;
     }
-    at + wide16(starts[i])
+    from
 }
 
 // The first byte of the main header that is not as laid out, or 1,247.
@@ -485,10 +476,9 @@ pub fn main_header_check(p: &[u8]) -> usize
 {
     lines_check(
         p,
-        0,
         &MPH_TEMPLATE,
         &MPH_STARTS,
-        &MPH_VALUES,
+        &MPH_KEYS,
         &MPH_KINDS,
         &MPH_WIDTHS,
     )
@@ -502,13 +492,14 @@ pub fn dsd_check(p: &[u8], at: usize) -> usize
     if p[at] == b' ' {
         return spare_check(p, at, 279);
     }
-    lines_check(
-        p,
-        at,
+    let end = at + 280;
+    let bad = lines_check(
+        &p[at..end],
         &DSD_TEMPLATE,
         &DSD_STARTS,
-        &DSD_VALUES,
+        &DSD_KEYS,
         &DSD_KINDS,
         &DSD_WIDTHS,
-    )
+    );
+    at + bad
 }

@@ -9,7 +9,7 @@ ghost use Prim.Native.Nat.{ℕ, _+_, _*_, _≤_, _<_};
 ghost use lib.IntN.{natAbs};
 ghost use lib.ListN.{length};
 ghost use Rattle.layout.specs.Bytes.{part};
-ghost use Rattle.layout.specs.Listing.{decimal, signedDecimal, trimmed, lineOf};
+ghost use Rattle.layout.specs.Listing.{decimal, signedDecimal, trimmed, lineOf, listing};
 ghost use Rattle.layout.specs.Answers.{verdictIs};
 ghost use Rattle.lister.specs.Put.{Put, Written};
 ghost use Rattle.lister.specs.Lines.{nameAt, valueWords, entryText, entryTexts, refusalText, acceptedText, listingOf, longerText};
@@ -204,4 +204,18 @@ pub fn write_longer(out: &mut [u8]) -> usize
     ensures { λ r. ⌜ Written 32768 longerText (now (out .entry)) (now (out .exit)) r ⌝ }
 {
     put_text(out, 0, b"longer than 65536\n")
+}
+
+// What the program writes for an input.
+pub fn list_product(p: &[u8], out: &mut [u8]) -> usize
+    requires { ⌜ 32768 ≤ length (now out) ⌝ }
+    ensures { λ r. ⌜ Written 32768 (listing (now (p .entry))) (now (out .entry)) (now (out .exit)) r ⌝ }
+{
+    if 65536 < p.len() {
+        return write_longer(out);
+    }
+    let answer = product::open_directory(p);
+    let verdict = answer.verdict;
+    let directory = answer.directory;
+    write_listing(verdict, directory, p.len(), out)
 }

@@ -1,3 +1,4 @@
 pub mod Blanks
+pub mod Runs
 pub mod Numbers
 pub mod LineEnds

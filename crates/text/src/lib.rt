@@ -1,26 +1,228 @@
 // Header text (document 01, "Header text"): blanks, decimal numbers and the lines of the SPH, read at a place of the lent bytes.
 ghost use mathlib.Core.Path.{_≡_};
-ghost use Prim.Native.Nat.{_+_, _*_, _-_, _<_, _≤_};
-ghost use lib.Dec.{eqb};
+ghost use Prim.Native.Nat.{ℕ, _+_, _*_, _-_, _^_, _<_, _≤_};
+ghost use mathlib.Core.Bool.{not};
+ghost use lib.Dec.{T, eqb};
 ghost use lib.ListN.{length};
 ghost use Rattle.layout.specs.Answer.{need};
-ghost use Rattle.layout.specs.Bytes.{part};
+ghost use Rattle.layout.specs.Bytes.{part, byteAt};
 ghost use Rattle.layout.specs.Rules.{rule7At};
-ghost use Rattle.layout.specs.Search.{find, first};
+ghost use Rattle.layout.specs.Search.{some, find, first};
 ghost use Rattle.layout.specs.Sph.{ended, blanks, unquoted, quoted, value, keyword, line};
-ghost use Rattle.layout.specs.Text.{plain, fits};
+ghost use Rattle.layout.specs.Text.{plain, digit, fits, digits};
 ghost use Rattle.text.specs.Blanks.{notBlank};
+ghost use Rattle.text.specs.Runs.{Skipped};
 ghost use Rattle.text.specs.Numbers.{capped, withByte, numberIn, wholeIn};
 ghost use Rattle.text.specs.LineEnds.{inKeyword, fails, Ended};
+
+// Each run of bytes of one class has three functions. `.._in` tests some bytes as a whole, without an exit, so that they are tested side by side;
+// `.._blocks` goes over whole blocks with it, the last of which ends with the run, and answers a place up to which all is good; and the search
+// goes byte by byte from there.
+fn blanks_in(p: &[u8], at: usize, n: usize) -> bool
+    requires { ⌜ at + n ≤ length (now p) ⌝ }
+    ensures { λ r. ⌜ r ≡ not (some (notBlank (now (p .entry))) at n) ⌝ }
+{
+    let mut all = true;
+    let mut i = 0;
+    while i < n {
+        all = all & (p[at + i] == 32);
+        i += 1;
+    }
+    all
+}
+
+fn blank_blocks(p: &[u8], from: usize, to: usize) -> usize
+    requires { ⌜ (from ≤ to) × (to ≤ length (now p)) ⌝ }
+    ensures { λ r. ⌜ Skipped (notBlank (now (p .entry))) from to r ⌝ }
+{
+    if to - from < 16 {
+        return from;
+    }
+    let mut i = from;
+    while 16 < to - i {
+        if !blanks_in(p, i, 16) {
+            return i;
+        }
+        i += 16;
+    }
+    if blanks_in(p, to - 16, 16) {
+        return to;
+    }
+    i
+}
 
 // The first place in `from..to` whose byte is not a blank, or `to`.
 pub fn first_not_blank(p: &[u8], from: usize, to: usize) -> usize
     requires { ⌜ (from ≤ to) × (to ≤ length (now p)) ⌝ }
     ensures { λ r. ⌜ r ≡ find (notBlank (now (p .entry))) from (to - from) ⌝ }
 {
-    let mut i = from;
+    let mut i = blank_blocks(p, from, to);
     while i < to {
         if p[i] != 32 {
+            return i;
+        }
+        i += 1;
+    }
+    to
+}
+
+// A byte of q or c: 32 to 126, never 34.
+fn is_plain(x: u8) -> bool
+    ensures { λ r. ⌜ r ≡ fits plain x ⌝ }
+{
+    ((32 <= x) & (x <= 126)) & (x != 34)
+}
+
+fn plain_in(p: &[u8], at: usize, n: usize) -> bool
+    requires { ⌜ at + n ≤ length (now p) ⌝ }
+    ensures { λ r. ⌜ r ≡ not (some (fails (fits plain) (now (p .entry))) at n) ⌝ }
+{
+    let mut all = true;
+    let mut i = 0;
+    while i < n {
+        all = all & is_plain(p[at + i]);
+        i += 1;
+    }
+    all
+}
+
+fn plain_blocks(p: &[u8], from: usize, to: usize) -> usize
+    requires { ⌜ (from ≤ to) × (to ≤ length (now p)) ⌝ }
+    ensures { λ r. ⌜ Skipped (fails (fits plain) (now (p .entry))) from to r ⌝ }
+{
+    if to - from < 16 {
+        return from;
+    }
+    let mut i = from;
+    while 16 < to - i {
+        if !plain_in(p, i, 16) {
+            return i;
+        }
+        i += 16;
+    }
+    if plain_in(p, to - 16, 16) {
+        return to;
+    }
+    i
+}
+
+// The first place in `from..to` whose byte is not of a q, or `to`.
+pub fn first_not_plain(p: &[u8], from: usize, to: usize) -> usize
+    requires { ⌜ (from ≤ to) × (to ≤ length (now p)) ⌝ }
+    ensures { λ r. ⌜ r ≡ find (fails (fits plain) (now (p .entry))) from (to - from) ⌝ }
+{
+    let mut i = plain_blocks(p, from, to);
+    while i < to {
+        if !is_plain(p[i]) {
+            return i;
+        }
+        i += 1;
+    }
+    to
+}
+
+fn is_digit(x: u8) -> bool
+    ensures { λ r. ⌜ r ≡ fits digit x ⌝ }
+{
+    (48 <= x) & (x <= 57)
+}
+
+fn digits_in(p: &[u8], at: usize, n: usize) -> bool
+    requires { ⌜ at + n ≤ length (now p) ⌝ }
+    ensures { λ r. ⌜ r ≡ not (some (fails (fits digit) (now (p .entry))) at n) ⌝ }
+{
+    let mut all = true;
+    let mut i = 0;
+    while i < n {
+        all = all & is_digit(p[at + i]);
+        i += 1;
+    }
+    all
+}
+
+fn digit_blocks(p: &[u8], from: usize, to: usize) -> usize
+    requires { ⌜ (from ≤ to) × (to ≤ length (now p)) ⌝ }
+    ensures { λ r. ⌜ Skipped (fails (fits digit) (now (p .entry))) from to r ⌝ }
+{
+    if to - from < 8 {
+        return from;
+    }
+    let mut i = from;
+    while 8 < to - i {
+        if !digits_in(p, i, 8) {
+            return i;
+        }
+        i += 8;
+    }
+    if digits_in(p, to - 8, 8) {
+        return to;
+    }
+    i
+}
+
+// The first place in `from..to` whose byte is not a digit, or `to`.
+pub fn first_not_digit(p: &[u8], from: usize, to: usize) -> usize
+    requires { ⌜ (from ≤ to) × (to ≤ length (now p)) ⌝ }
+    ensures { λ r. ⌜ r ≡ find (fails (fits digit) (now (p .entry))) from (to - from) ⌝ }
+{
+    let mut i = digit_blocks(p, from, to);
+    while i < to {
+        if !is_digit(p[i]) {
+            return i;
+        }
+        i += 1;
+    }
+    to
+}
+
+// A byte of a keyword behind its first.
+fn in_keyword(x: u8) -> bool
+    ensures { λ r. ⌜ r ≡ inKeyword x ⌝ }
+{
+    ((65 <= x) & (x <= 90)) | (((48 <= x) & (x <= 57)) | (x == 95))
+}
+
+fn keyword_in(p: &[u8], at: usize, n: usize) -> bool
+    requires { ⌜ at + n ≤ length (now p) ⌝ }
+    ensures { λ r. ⌜ r ≡ not (some (fails inKeyword (now (p .entry))) at n) ⌝ }
+{
+    let mut all = true;
+    let mut i = 0;
+    while i < n {
+        all = all & in_keyword(p[at + i]);
+        i += 1;
+    }
+    all
+}
+
+fn keyword_blocks(p: &[u8], from: usize, to: usize) -> usize
+    requires { ⌜ (from ≤ to) × (to ≤ length (now p)) ⌝ }
+    ensures { λ r. ⌜ Skipped (fails inKeyword (now (p .entry))) from to r ⌝ }
+{
+    if to - from < 8 {
+        return from;
+    }
+    let mut i = from;
+    while 8 < to - i {
+        if !keyword_in(p, i, 8) {
+            return i;
+        }
+        i += 8;
+    }
+    if keyword_in(p, to - 8, 8) {
+        return to;
+    }
+    i
+}
+
+// The first place in `from..to` whose byte is not of a keyword, or `to`.
+fn first_not_in_keyword(p: &[u8], from: usize, to: usize) -> usize
+    requires { ⌜ (from ≤ to) × (to ≤ length (now p)) ⌝ }
+    ensures { λ r. ⌜ r ≡ find (fails inKeyword (now (p .entry))) from (to - from) ⌝ }
+{
+    let mut i = keyword_blocks(p, from, to);
+    while i < to {
+        if !in_keyword(p[i]) {
             return i;
         }
         i += 1;
@@ -73,84 +275,86 @@ fn with_byte(magnitude: u64, x: u8) -> u64
     9223372036854775808
 }
 
+// The magnitude of the digits in `from..to`, with or without a point, held at 2^63: byte by byte.
+fn digits_at(p: &[u8], from: usize, to: usize) -> u64
+    requires { ⌜ (from ≤ to) × (to ≤ length (now p)) ⌝ }
+    ensures { λ r. ⌜ r ≡ capped (digits 0 (part (now (p .entry)) from (to - from))) ⌝ }
+{
+    let mut magnitude: u64 = 0;
+    let mut digit = from;
+    while digit < to {
+        magnitude = with_byte(magnitude, p[digit]);
+        digit += 1;
+    }
+    magnitude
+}
+
+// What a digit counts.
+fn value_of(x: u8) -> u64
+    requires { ⌜ T (fits digit x) ⌝ }
+    ensures { λ r. ⌜ (r ≡ x - 48) × (r < 10) ⌝ }
+{
+    (x - 48) as u64
+}
+
+// Ten digits, which need no cap.
+fn ten_digits(p: &[u8], at: usize) -> u64
+    requires { ⌜ (at + 10 ≤ length (now p)) × ((k : ℕ) → at ≤ k → k < at + 10 → T (fits digit (byteAt (now p) k))) ⌝ }
+    ensures { λ r. ⌜ (r ≡ digits 0 (part (now (p .entry)) at 10)) × (r < 10 ^ 10) ⌝ }
+{
+    let end = at + 10;
+    let mut value: u64 = 0;
+    let mut i = at;
+    while i < end {
+        value = value * 10 + value_of(p[i]);
+        i += 1;
+    }
+    value
+}
+
+// Ten digits behind others, held at 2^63.
+fn joined(high: u64, low: u64) -> u64
+    requires { ⌜ low < 10 ^ 10 ⌝ }
+    ensures { λ r. ⌜ r ≡ capped (high * 10 ^ 10 + low) ⌝ }
+{
+    if 922337203 < high {
+        return 9223372036854775808;
+    }
+    let all = high * 10000000000 + low;
+    if all < 9223372036854775808 {
+        return all;
+    }
+    9223372036854775808
+}
+
+// The same magnitude: of twenty digits, as sizes and offsets have them, in two halves, and of ten at once.
+fn magnitude_at(p: &[u8], from: usize, to: usize) -> u64
+    requires { ⌜ (from ≤ to) × (to ≤ length (now p)) ⌝ }
+    ensures { λ r. ⌜ r ≡ capped (digits 0 (part (now (p .entry)) from (to - from))) ⌝ }
+{
+    if to - from == 20 {
+        if digits_in(p, from, 20) {
+            return joined(ten_digits(p, from), ten_digits(p, from + 10));
+        }
+    }
+    if to - from == 10 {
+        if digits_in(p, from, 10) {
+            return ten_digits(p, from);
+        }
+    }
+    digits_at(p, from, to)
+}
+
 // The number that `width` bytes from `at` on are: a sign, and digits with or without a point.
 pub fn number_at(p: &[u8], at: usize, width: usize) -> Number
     requires { ⌜ (1 ≤ width) × (at + width ≤ length (now p)) ⌝ }
     ensures { λ r. ⌜ r ≡ numberIn (now (p .entry)) at width ⌝ }
 {
-    let end = at + width;
-    let mut magnitude: u64 = 0;
-    let mut digit = at + 1;
-    while digit < end {
-        magnitude = with_byte(magnitude, p[digit]);
-        digit += 1;
-    }
+    let magnitude = magnitude_at(p, at + 1, at + width);
     Number {
         minus: p[at] == 45,
         magnitude: magnitude,
     }
-}
-
-// A byte of q or c: 32 to 126, never 34.
-fn is_plain(x: u8) -> bool
-    ensures { λ r. ⌜ r ≡ fits plain x ⌝ }
-{
-    if x < 32 {
-        return false;
-    }
-    if 126 < x {
-        return false;
-    }
-    x != 34
-}
-
-// A byte of a keyword behind its first.
-fn in_keyword(x: u8) -> bool
-    ensures { λ r. ⌜ r ≡ inKeyword x ⌝ }
-{
-    if x < 48 {
-        return false;
-    }
-    if x <= 57 {
-        return true;
-    }
-    if x < 65 {
-        return false;
-    }
-    if x <= 90 {
-        return true;
-    }
-    x == 95
-}
-
-// The first place in `from..to` whose byte is not of a q, or `to`.
-fn first_not_plain(p: &[u8], from: usize, to: usize) -> usize
-    requires { ⌜ (from ≤ to) × (to ≤ length (now p)) ⌝ }
-    ensures { λ r. ⌜ r ≡ find (fails (fits plain) (now (p .entry))) from (to - from) ⌝ }
-{
-    let mut plain_to = from;
-    while plain_to < to {
-        if !is_plain(p[plain_to]) {
-            return plain_to;
-        }
-        plain_to += 1;
-    }
-    to
-}
-
-// The first place in `from..to` whose byte is not of a keyword, or `to`.
-fn first_not_in_keyword(p: &[u8], from: usize, to: usize) -> usize
-    requires { ⌜ (from ≤ to) × (to ≤ length (now p)) ⌝ }
-    ensures { λ r. ⌜ r ≡ find (fails inKeyword (now (p .entry))) from (to - from) ⌝ }
-{
-    let mut keyword_to = from;
-    while keyword_to < to {
-        if !in_keyword(p[keyword_to]) {
-            return keyword_to;
-        }
-        keyword_to += 1;
-    }
-    to
 }
 
 // The tests of what stands in `at..to`, the rest of the line that begins at `start`: each answers the place behind the line's byte 10, or `start`.

@@ -1,13 +1,13 @@
 -- `lines::dsd_check` meets its contract: a spare, or the lines of the DSD's table, whose rule is computed once, over the whole table.
 -- Assumes nothing.
 use mathlib.Core.Path.{refl}
-use native.Mathlib.Nat.{add-zero}
+use native.Mathlib.Omega.{arith}
 use borrow.Author.Needs.{needs}
 use Rattle.layout.specs.Bytes.{part}
 use Rattle.layout.specs.Text.{layout, lineClasses, valueClasses}
 use Rattle.layout.specs.Lines.{dsd, spareDsd}
-use Rattle.lines.specs.Table.{tableLaid, linesLaid, lineLaid, namedLaid, valueLaid, lineOf, tableFits, linesFit, lineFits, namedFits, widthFits}
-use Rattle.lines.proofs.Headers.{dsd-answer, spare-lines, dsd-lines}
+use Rattle.lines.specs.Table.{behind, tableLaid, linesLaid, lineLaid, valueLaid, lineOf, tableFits, linesFit, lineFits, widthFits}
+use Rattle.lines.proofs.Headers.{dsd-answer, spare-lines, dsd-lines, dsd-long, dsd-inside, dsd-place}
 use Rattle.lines.proofs.dsd_check.Statement.{statement}
 use Rattle.lines.proofs.dsd_check.Tie as tie
 
@@ -19,7 +19,20 @@ spare-check-requires c κs = search needs
 
 returns : tie.Need-returns
 unfolding layout spareDsd lineClasses
-returns c = dsd-answer _ (c .before .before .before .before .args .at) spareDsd _ _ (spare-lines (c .before .before .before .before .args .p .now) (c .before .before .before .before .args .at) (c .before .if1 .taken)) refl refl (c .spare-check .ensures) (c .before .before .before .before .pre)
+returns c =
+    dsd-answer _ (c .before .before .before .before .args .at) spareDsd _ _ (spare-lines (c .before .before .before .before .args .p .now) (c .before .before .before .before .args .at) (c .before .if1 .taken)) refl refl (c .spare-check .ensures) (c .before .before .before .before .pre)
+
+add-end : tie.Need-add-end
+add-end c = search needs
+
+sub-lines-check : tie.Need-sub-lines-check
+sub-lines-check c = search needs
+
+part-lines-check-start : tie.Need-part-lines-check-start
+part-lines-check-start c = search needs
+
+part-lines-check-end : tie.Need-part-lines-check-end
+part-lines-check-end c = search needs
 
 slice-aggregate-lines-check : tie.Need-slice-aggregate-lines-check
 slice-aggregate-lines-check c = search needs
@@ -37,12 +50,17 @@ slice-aggregate-lines-check-5 : tie.Need-slice-aggregate-lines-check-5
 slice-aggregate-lines-check-5 c = search needs
 
 lines-check-requires : tie.Need-lines-check-requires
-unfolding tableFits linesFit lineFits namedFits widthFits lineOf
-lines-check-requires c κs = (tt, c .before .before .before .before .before .before .before .before .pre)
+unfolding behind tableFits linesFit lineFits widthFits lineOf
+lines-check-requires c κs = (tt, dsd-long _ _ (c .before .before .before .before .before .before .before .before .before .pre))
+
+add-result : tie.Need-add-result
+unfolding behind tableLaid linesLaid lineLaid valueLaid lineOf layout dsd lineClasses valueClasses part
+add-result c = omega (arith, dsd-inside (c .before .before .before .before .before .before .before .before .before .before .args .p .now) (c .before .before .before .before .before .before .before .before .before .before .args .at) _ _ refl (c .lines-check .ensures), c .before .before .before .before .before .before .before .before .before .before .pre)
 
 returns-2 : tie.Need-returns-2
-unfolding tableLaid linesLaid lineLaid namedLaid valueLaid lineOf layout dsd lineClasses valueClasses part
-returns-2 c = dsd-answer _ (c .before .before .before .before .before .before .before .before .before .args .at) dsd _ _ (dsd-lines (c .before .before .before .before .before .before .before .before .before .args .p .now) (c .before .before .before .before .before .before .before .before .before .args .at) (c .before .before .before .before .before .before .if1 .left)) refl refl (rw (add-zero _) at (c .lines-check .ensures)) (c .before .before .before .before .before .before .before .before .before .pre)
+unfolding behind tableLaid linesLaid lineLaid valueLaid lineOf layout dsd lineClasses valueClasses part
+returns-2 c =
+    dsd-answer _ (c .before .before .before .before .before .before .before .before .before .before .args .at) dsd _ _ (dsd-lines (c .before .before .before .before .before .before .before .before .before .before .args .p .now) (c .before .before .before .before .before .before .before .before .before .before .args .at) (c .before .before .before .before .before .before .before .if1 .left)) refl refl (dsd-place (c .before .before .before .before .before .before .before .before .before .before .args .p .now) (c .before .before .before .before .before .before .before .before .before .before .args .at) _ _ refl (c .lines-check .ensures)) (c .before .before .before .before .before .before .before .before .before .before .pre)
 
 pub dsd-check-spec : {M : Type 1} → statement M
 dsd-check-spec =
@@ -51,10 +69,15 @@ dsd-check-spec =
     shared-slice-read-if1
     spare-check-requires
     returns
+    add-end
+    sub-lines-check
+    part-lines-check-start
+    part-lines-check-end
     slice-aggregate-lines-check
     slice-aggregate-lines-check-2
     slice-aggregate-lines-check-3
     slice-aggregate-lines-check-4
     slice-aggregate-lines-check-5
     lines-check-requires
+    add-result
     returns-2)

@@ -1,5 +1,7 @@
 -- `lines::line_at` meets its contract: each field is its column's element.
 -- Assumes nothing.
+use Prim.Native.Nat.{_+_}
+use native.Mathlib.Omega.{arith}
 use borrow.Author.Needs.{needs}
 use lib.ListN.{getD}
 use Rattle.lines.specs.Table.{lineOf}
@@ -15,46 +17,34 @@ shared-slice-read-wide16 c = search needs
 wide16-requires : tie.Need-wide16-requires
 wide16-requires c κs = search needs
 
-mul-wide16-2 : tie.Need-mul-wide16-2
-mul-wide16-2 c = search needs
-
-shared-slice-read-wide16-2 : tie.Need-shared-slice-read-wide16-2
-shared-slice-read-wide16-2 c = search needs
-
-wide16-requires-2 : tie.Need-wide16-requires-2
-wide16-requires-2 c κs = search needs
-
-shared-slice-read-t15 : tie.Need-shared-slice-read-t15
-shared-slice-read-t15 c = search needs
-
 shared-slice-read-wide8 : tie.Need-shared-slice-read-wide8
 shared-slice-read-wide8 c = search needs
 
 wide8-requires : tie.Need-wide8-requires
 wide8-requires c κs = search needs
 
-add-wide16 : tie.Need-add-wide16
-add-wide16 c = search needs
+add-t13 : tie.Need-add-t13
+add-t13 c = search needs
 
-mul-wide16-3 : tie.Need-mul-wide16-3
-mul-wide16-3 c = search needs
+shared-slice-read-t15 : tie.Need-shared-slice-read-t15
+shared-slice-read-t15 c = search needs
 
-shared-slice-read-wide16-3 : tie.Need-shared-slice-read-wide16-3
-shared-slice-read-wide16-3 c = search needs
+shared-slice-read-wide8-2 : tie.Need-shared-slice-read-wide8-2
+shared-slice-read-wide8-2 c = search needs
 
-wide16-requires-3 : tie.Need-wide16-requires-3
-wide16-requires-3 c κs = search needs
+wide8-requires-2 : tie.Need-wide8-requires-2
+wide8-requires-2 c κs = search needs
 
 returns : tie.Need-returns
 unfolding lineOf
-returns c =
-    λ j. record {
-      start = c .before .before .before .before .before .before .before .wide16 .ensures j;
-      value = c .before .before .before .before .before .wide162 .ensures j;
-      kind = getD (c .before .before .before .before .before .before .before .before .before .before .before .before .before .args .kinds .now) (c .before .before .before .before .before .before .before .before .before .before .before .before .before .args .i) 0;
-      width = c .before .before .wide8 .ensures j;
-      end = c .wide163 .ensures j;
-    }
+returns c = (
+  λ j. record {
+    value = c .before .before .before .before .before .wide16 .ensures .0 j + c .before .before .before .wide8 .ensures .0 j;
+    kind = getD (c .before .before .before .before .before .before .before .before .before .before .before .args .kinds .now) (c .before .before .before .before .before .before .before .before .before .before .before .args .i) 0;
+    width = c .wide82 .ensures .0 j;
+  },
+  omega (arith, c .before .before .before .before .before .wide16 .ensures .1, c .before .before .before .wide8 .ensures .1, c .wide82 .ensures .1),
+)
 
 pub line-at-spec : {M : Type 1} → statement M
 line-at-spec =
@@ -63,14 +53,10 @@ line-at-spec =
     mul-wide16
     shared-slice-read-wide16
     wide16-requires
-    mul-wide16-2
-    shared-slice-read-wide16-2
-    wide16-requires-2
-    shared-slice-read-t15
     shared-slice-read-wide8
     wide8-requires
-    add-wide16
-    mul-wide16-3
-    shared-slice-read-wide16-3
-    wide16-requires-3
+    add-t13
+    shared-slice-read-t15
+    shared-slice-read-wide8-2
+    wide8-requires-2
     returns)

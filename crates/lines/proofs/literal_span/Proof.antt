@@ -1,28 +1,27 @@
--- `lines::literal_span` meets its contract: what is left of the span from `i` on decides the whole span.
+-- `lines::literal_span` meets its contract: what is left of the search from `i` on is the whole search.
 -- Assumes nothing.
-use Prim.Native.Nat.{_≤_, _-_, _+_}
-use mathlib.Core.Path.{_≡_}
+use Prim.Native.Nat.{_≤_, _-_}
+use mathlib.Core.Path.{_≡_, _∙_}
 use native.Mathlib.Omega.{arith}
 use borrow.Author.Needs.{needs}
-use Rattle.layout.specs.Bytes.{part}
-use Rattle.layout.specs.Text.{literal}
-use Rattle.lines.specs.Table.{firstBad}
-use Rattle.lines.proofs.Spans.{literal-bad, literal-good, literal-none}
+use Rattle.layout.specs.Search.{find}
+use Rattle.lines.specs.Table.{differs}
+use Rattle.layout.proofs.Laws.{find-hit, find-next, find-none}
+use Rattle.lines.proofs.Spans.{literal-bad, is-same, not-same}
 use Rattle.lines.proofs.literal_span.Statement.{statement}
 use Rattle.lines.proofs.literal_span.Tie as tie
 
 abbrev Inv-loop : tie.InvT-loop
-Inv-loop p at template from to i₀ i =
-    (i ≤ to) × (firstBad (literal (part template from (to - from))) p (at + from) ≡ firstBad (literal (part template i (to - i))) p (at + i))
+Inv-loop p template from to i₀ i = (i ≤ to) × (find (differs template p) from (to - from) ≡ find (differs template p) i (to - i))
 
 abbrev μ-loop : tie.MeasureT-loop
-μ-loop p at template from to i₀ i = to - i
+μ-loop p template from to i₀ i = to - i
+
+literal-blocks-requires : tie.Need-literal-blocks-requires Inv-loop μ-loop
+literal-blocks-requires c κs = search needs
 
 loop-holds : tie.Need-loop-holds Inv-loop μ-loop
-loop-holds c = search needs
-
-add-if1 : tie.Need-add-if1 Inv-loop μ-loop
-add-if1 c = omega arith
+loop-holds c = (c .literal-blocks .ensures .high, c .literal-blocks .ensures .left)
 
 shared-slice-read-if1 : tie.Need-shared-slice-read-if1 Inv-loop μ-loop
 shared-slice-read-if1 c = omega arith
@@ -30,11 +29,8 @@ shared-slice-read-if1 c = omega arith
 shared-slice-read-if1-2 : tie.Need-shared-slice-read-if1-2 Inv-loop μ-loop
 shared-slice-read-if1-2 c = omega arith
 
-add-result : tie.Need-add-result Inv-loop μ-loop
-add-result c = omega arith
-
 returns : tie.Need-returns Inv-loop μ-loop
-returns c = literal-bad _ _ _ _ _ _ (c .before .before .before .before .loop .inv .1) (omega arith) (omega arith) (c .if1 .taken)
+returns c = find-hit _ _ _ _ (c .before .before .before .before .loop .inv .1) (omega arith) (not-same _ _ _ (c .if1 .taken)) ∙ literal-bad _ _ _ _ (omega arith)
 
 add-i : tie.Need-add-i Inv-loop μ-loop
 add-i c = omega arith
@@ -43,14 +39,10 @@ loop-less : tie.Need-loop-less Inv-loop μ-loop
 loop-less c = omega arith
 
 loop-again : tie.Need-loop-again Inv-loop μ-loop
-loop-again c =
-    (omega arith, literal-good _ _ _ _ _ _ (c .before .before .before .before .loop .inv .1) (omega arith) (omega arith) (c .if1 .left))
-
-add-result-2 : tie.Need-add-result-2 Inv-loop μ-loop
-add-result-2 c = omega arith
+loop-again c = (omega arith, find-next _ _ _ _ (c .before .before .before .before .loop .inv .1) (omega arith) (is-same _ _ _ (c .if1 .left)))
 
 returns-2 : tie.Need-returns-2 Inv-loop μ-loop
-returns-2 c = literal-none _ _ _ _ _ _ (c .before .loop .inv .1) (omega arith) (omega arith)
+returns-2 c = find-none _ _ _ _ (c .before .loop .inv .1) (omega arith) (omega arith) ∙ literal-bad _ _ _ _ (omega arith)
 
 pub literal-span-spec : {M : Type 1} → statement M
 literal-span-spec =
@@ -58,14 +50,12 @@ literal-span-spec =
     (tie.spec
     Inv-loop
     μ-loop
+    literal-blocks-requires
     loop-holds
-    add-if1
     shared-slice-read-if1
     shared-slice-read-if1-2
-    add-result
     returns
     add-i
     loop-less
     loop-again
-    add-result-2
     returns-2)

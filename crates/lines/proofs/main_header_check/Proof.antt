@@ -5,7 +5,7 @@ use borrow.Author.Needs.{needs}
 use Rattle.layout.specs.Bytes.{part}
 use Rattle.layout.specs.Text.{layout, lineClasses, valueClasses}
 use Rattle.layout.specs.Lines.{mph}
-use Rattle.lines.specs.Table.{tableLaid, linesLaid, lineLaid, namedLaid, valueLaid, lineOf, tableFits, linesFit, lineFits, namedFits, widthFits}
+use Rattle.lines.specs.Table.{behind, tableLaid, linesLaid, lineLaid, valueLaid, lineOf, tableFits, linesFit, lineFits, widthFits}
 use Rattle.lines.proofs.Headers.{header-answer}
 use Rattle.lines.proofs.main_header_check.Statement.{statement}
 use Rattle.lines.proofs.main_header_check.Tie as tie
@@ -26,11 +26,11 @@ slice-aggregate-lines-check-5 : tie.Need-slice-aggregate-lines-check-5
 slice-aggregate-lines-check-5 c = search needs
 
 lines-check-requires : tie.Need-lines-check-requires
-unfolding tableFits linesFit lineFits namedFits widthFits lineOf
+unfolding behind tableFits linesFit lineFits widthFits lineOf
 lines-check-requires c κs = (tt, c .before .before .before .before .before .before .pre)
 
 returns : tie.Need-returns
-unfolding tableLaid linesLaid lineLaid namedLaid valueLaid lineOf layout mph lineClasses valueClasses part
+unfolding behind tableLaid linesLaid lineLaid valueLaid lineOf layout mph lineClasses valueClasses part
 returns c = header-answer 3 128 _ (layout mph) _ 0 _ 1247 refl (c .lines-check .ensures) refl (c .before .before .before .before .before .before .before .pre)
 
 pub main-header-check-spec : {M : Type 1} → statement M

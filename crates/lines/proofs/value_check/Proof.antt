@@ -4,15 +4,17 @@ use Prim.Native.Nat.{_-_}
 use mathlib.Core.Path.{sym, _∙_}
 use native.Mathlib.Omega.{arith}
 use borrow.Author.Needs.{needs}
+use Rattle.layout.specs.Text.{plain}
+use Rattle.lines.proofs.Spans.{run-bad}
 use Rattle.lines.proofs.Values.{text-laid, flag-laid, type-laid, whole-laid, thousandths-laid, millionths-laid, flag-width, type-width, whole-width, thousandths-width, millionths-width, one-good, one-bad, whole-by-end, decimal-by-end}
 use Rattle.lines.proofs.value_check.Statement.{statement}
 use Rattle.lines.proofs.value_check.Tie as tie
 
-text-span-requires : tie.Need-text-span-requires
-text-span-requires c κs = search needs
+first-not-plain-requires : tie.Need-first-not-plain-requires
+first-not-plain-requires c κs = search needs
 
 returns : tie.Need-returns
-returns c = rw (text-laid (c .before .before .before .args .kind) (c .before .before .before .args .to - c .before .before .before .args .from) (c .before .if1 .taken)) (c .text-span .ensures)
+returns c = rw (text-laid (c .before .before .before .args .kind) (c .before .before .before .args .to - c .before .before .before .args .from) (c .before .if1 .taken)) (c .first-not-plain .ensures ∙ run-bad plain _ _ _)
 
 shared-slice-read-is-flag : tie.Need-shared-slice-read-is-flag
 shared-slice-read-is-flag c = omega (arith, c .before .before .before .before .pre .1, flag-width (c .before .before .before .before .args .kind) (c .before .before .before .before .args .to - c .before .before .before .before .args .from) (c .before .if2 .taken) (c .before .before .before .before .pre .2))
@@ -66,7 +68,7 @@ pub value-check-spec : {M : Type 1} → statement M
 value-check-spec =
     tie.close
     (tie.spec
-    text-span-requires
+    first-not-plain-requires
     returns
     shared-slice-read-is-flag
     is-flag-requires

@@ -3,6 +3,8 @@
 use mathlib.Core.Path.{sym, _∙_}
 use borrow.Author.Needs.{needs}
 use borrow.Author.Tests.{not-true, not-false}
+use Rattle.layout.specs.Text.{digit}
+use Rattle.lines.proofs.Spans.{run-bad}
 use Rattle.lines.proofs.Values.{whole-bad, whole-good}
 use Rattle.lines.proofs.whole_check.Statement.{statement}
 use Rattle.lines.proofs.whole_check.Tie as tie
@@ -16,14 +18,14 @@ is-sign-requires c κs = search needs
 returns : tie.Need-returns
 returns c = whole-bad _ _ _ (sym (c .before .is-sign .ensures) ∙ not-true _ (c .if1 .taken))
 
-add-digit-span : tie.Need-add-digit-span
-add-digit-span c = search needs
+add-first-not-digit : tie.Need-add-first-not-digit
+add-first-not-digit c = search needs
 
-digit-span-requires : tie.Need-digit-span-requires
-digit-span-requires c κs = search needs
+first-not-digit-requires : tie.Need-first-not-digit-requires
+first-not-digit-requires c κs = search needs
 
 returns-2 : tie.Need-returns-2
-returns-2 c = whole-good _ _ _ _ (sym (c .before .before .is-sign .ensures) ∙ not-false _ (c .before .if1 .left)) (c .digit-span .ensures)
+returns-2 c = whole-good _ _ _ _ (sym (c .before .before .is-sign .ensures) ∙ not-false _ (c .before .if1 .left)) (c .first-not-digit .ensures ∙ run-bad digit _ _ _)
 
 pub whole-check-spec : {M : Type 1} → statement M
 whole-check-spec =
@@ -32,6 +34,6 @@ whole-check-spec =
     shared-slice-read-is-sign
     is-sign-requires
     returns
-    add-digit-span
-    digit-span-requires
+    add-first-not-digit
+    first-not-digit-requires
     returns-2)

@@ -17,8 +17,11 @@ Inv-loop p from to i₀ i = (i ≤ to) × (find (notBlank p) from (to - from) �
 abbrev μ-loop : tie.MeasureT-loop
 μ-loop p from to i₀ i = to - i
 
+blank-blocks-requires : tie.Need-blank-blocks-requires Inv-loop μ-loop
+blank-blocks-requires c κs = search needs
+
 loop-holds : tie.Need-loop-holds Inv-loop μ-loop
-loop-holds c = search needs
+loop-holds c = (c .blank-blocks .ensures .high, c .blank-blocks .ensures .left)
 
 shared-slice-read-if1 : tie.Need-shared-slice-read-if1 Inv-loop μ-loop
 shared-slice-read-if1 c = omega arith
@@ -44,6 +47,7 @@ first-not-blank-spec =
     (tie.spec
     Inv-loop
     μ-loop
+    blank-blocks-requires
     loop-holds
     shared-slice-read-if1
     returns

@@ -1,4 +1,4 @@
--- `text::first_not_plain` meets its contract: what is left of the search from `plain_to` on is the whole search.
+-- `text::first_not_plain` meets its contract: what is left of the search from `i` on is the whole search.
 -- Assumes nothing.
 use Prim.Native.Nat.{_≤_, _-_}
 use mathlib.Core.Path.{_≡_}
@@ -14,13 +14,16 @@ use Rattle.text.proofs.first_not_plain.Statement.{statement}
 use Rattle.text.proofs.first_not_plain.Tie as tie
 
 abbrev Inv-loop : tie.InvT-loop
-Inv-loop p from to plain-to₀ plain-to = (plain-to ≤ to) × (find (fails (fits plain) p) from (to - from) ≡ find (fails (fits plain) p) plain-to (to - plain-to))
+Inv-loop p from to i₀ i = (i ≤ to) × (find (fails (fits plain) p) from (to - from) ≡ find (fails (fits plain) p) i (to - i))
 
 abbrev μ-loop : tie.MeasureT-loop
-μ-loop p from to plain-to₀ plain-to = to - plain-to
+μ-loop p from to i₀ i = to - i
+
+plain-blocks-requires : tie.Need-plain-blocks-requires Inv-loop μ-loop
+plain-blocks-requires c κs = search needs
 
 loop-holds : tie.Need-loop-holds Inv-loop μ-loop
-loop-holds c = search needs
+loop-holds c = (c .plain-blocks .ensures .high, c .plain-blocks .ensures .left)
 
 shared-slice-read-is-plain : tie.Need-shared-slice-read-is-plain Inv-loop μ-loop
 shared-slice-read-is-plain c = omega arith
@@ -29,20 +32,16 @@ is-plain-requires : tie.Need-is-plain-requires Inv-loop μ-loop
 is-plain-requires c κs = search needs
 
 returns : tie.Need-returns Inv-loop μ-loop
-returns c =
-    find-hit _ _ _ _ (c .before .before .before .before .loop .inv .1) (omega arith) (failing _ _ (fits plain) _ (c .before .is-plain .ensures) (not-true _ (c .if1 .taken)))
+returns c = find-hit _ _ _ _ (c .before .before .before .before .loop .inv .1) (omega arith) (failing _ _ (fits plain) _ (c .before .is-plain .ensures) (not-true _ (c .if1 .taken)))
 
-add-plain-to : tie.Need-add-plain-to Inv-loop μ-loop
-add-plain-to c = omega arith
+add-i : tie.Need-add-i Inv-loop μ-loop
+add-i c = omega arith
 
 loop-less : tie.Need-loop-less Inv-loop μ-loop
 loop-less c = omega arith
 
 loop-again : tie.Need-loop-again Inv-loop μ-loop
-loop-again c = (
-  omega arith,
-  find-next _ _ _ _ (c .before .before .before .before .loop .inv .1) (omega arith) (passing _ _ (fits plain) _ (c .before .is-plain .ensures) (not-false _ (c .if1 .left))),
-)
+loop-again c = (omega arith, find-next _ _ _ _ (c .before .before .before .before .loop .inv .1) (omega arith) (passing _ _ (fits plain) _ (c .before .is-plain .ensures) (not-false _ (c .if1 .left))))
 
 returns-2 : tie.Need-returns-2 Inv-loop μ-loop
 returns-2 c = find-none _ _ _ _ (c .before .loop .inv .1) (omega arith) (omega arith)
@@ -53,11 +52,12 @@ first-not-plain-spec =
     (tie.spec
     Inv-loop
     μ-loop
+    plain-blocks-requires
     loop-holds
     shared-slice-read-is-plain
     is-plain-requires
     returns
-    add-plain-to
+    add-i
     loop-less
     loop-again
     returns-2)

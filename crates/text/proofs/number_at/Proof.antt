@@ -1,69 +1,32 @@
--- `text::number_at` meets its contract: the digits left, behind the magnitude so far, are all the digits.
+-- `text::number_at` meets its contract: the sign, and the magnitude of the bytes behind it.
 -- Assumes nothing.
-use Prim.Native.Nat.{_+_, _-_, _≤_}
-use mathlib.Core.Path.{_≡_, refl, sym, _∙_}
 use native.Mathlib.Omega.{arith}
-use Rattle.layout.specs.Bytes.{part}
-use Rattle.layout.specs.Text.{digits}
-use Rattle.text.specs.Numbers.{capped}
-use Rattle.text.proofs.Numbers.{capped-most, digit-next, digits-end, number-is}
+use borrow.Author.Needs.{needs}
+use Rattle.text.proofs.Numbers.{number-is}
 use Rattle.text.proofs.number_at.Statement.{statement}
 use Rattle.text.proofs.number_at.Tie as tie
 
-abbrev Inv-loop : tie.InvT-loop
-Inv-loop p at width end magnitude₀ digit₀ magnitude digit =
-    (digit ≤ end) × (magnitude ≤ 9223372036854775808) × (capped (digits 0 (part p (at + 1) (end - (at + 1)))) ≡ capped (digits magnitude (part p digit (end - digit))))
+add-magnitude-at : tie.Need-add-magnitude-at
+add-magnitude-at c = search needs
 
-abbrev μ-loop : tie.MeasureT-loop
-μ-loop p at width end magnitude₀ digit₀ magnitude digit = end - digit
+add-magnitude-at-2 : tie.Need-add-magnitude-at-2
+add-magnitude-at-2 c = search needs
 
-add-end : tie.Need-add-end Inv-loop μ-loop
-add-end c = omega arith
+magnitude-at-requires : tie.Need-magnitude-at-requires
+magnitude-at-requires c κs = search needs
 
-add-digit : tie.Need-add-digit Inv-loop μ-loop
-add-digit c = omega arith
+shared-slice-read-t8 : tie.Need-shared-slice-read-t8
+shared-slice-read-t8 c = search needs
 
-loop-holds : tie.Need-loop-holds Inv-loop μ-loop
-loop-holds c = (omega arith, omega arith, refl)
-
-shared-slice-read-with-byte : tie.Need-shared-slice-read-with-byte Inv-loop μ-loop
-shared-slice-read-with-byte c = omega arith
-
-with-byte-requires : tie.Need-with-byte-requires Inv-loop μ-loop
-with-byte-requires c κs = omega arith
-
-add-digit-2 : tie.Need-add-digit-2 Inv-loop μ-loop
-add-digit-2 c = omega arith
-
-loop-less : tie.Need-loop-less Inv-loop μ-loop
-loop-less c = omega arith
-
-loop-again : tie.Need-loop-again Inv-loop μ-loop
-loop-again c = (
-  omega arith,
-  capped-most _ _ (c .with-byte .ensures),
-  c .before .before .before .loop .inv .2 ∙ digit-next _ _ _ _ _ (omega arith) (omega arith) (c .with-byte .ensures),
-)
-
-shared-slice-read-t11 : tie.Need-shared-slice-read-t11 Inv-loop μ-loop
-shared-slice-read-t11 c = omega arith
-
-returns : tie.Need-returns Inv-loop μ-loop
-returns c = number-is _ _ _ _ (omega arith) (omega arith) (sym (c .before .before .loop .inv .2 ∙ digits-end _ _ _ _ (omega arith) (omega arith)))
+returns : tie.Need-returns
+returns c = number-is _ _ _ _ (omega arith) (omega arith) (c .before .magnitude-at .ensures)
 
 pub number-at-spec : {M : Type 1} → statement M
 number-at-spec =
     tie.close
     (tie.spec
-    Inv-loop
-    μ-loop
-    add-end
-    add-digit
-    loop-holds
-    shared-slice-read-with-byte
-    with-byte-requires
-    add-digit-2
-    loop-less
-    loop-again
-    shared-slice-read-t11
+    add-magnitude-at
+    add-magnitude-at-2
+    magnitude-at-requires
+    shared-slice-read-t8
     returns)

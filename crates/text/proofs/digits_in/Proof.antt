@@ -1,0 +1,59 @@
+-- `text::digits_in` meets its contract: the bytes so far, tested as a whole.
+-- Assumes nothing.
+use Prim.Native.Nat.{_≤_, _-_}
+use mathlib.Core.Bool.{not}
+use mathlib.Core.Path.{_≡_}
+use native.Mathlib.Omega.{arith}
+use borrow.Author.Needs.{needs}
+use Rattle.layout.specs.Search.{some}
+use Rattle.layout.specs.Text.{digit, fits}
+use Rattle.text.specs.LineEnds.{fails}
+use Rattle.text.proofs.Runs.{all-none, all-more, all-end}
+use Rattle.text.proofs.Tests.{class-test}
+use Rattle.text.proofs.digits_in.Statement.{statement}
+use Rattle.text.proofs.digits_in.Tie as tie
+
+abbrev Inv-loop : tie.InvT-loop
+Inv-loop p at n all₀ i₀ all i = (i ≤ n) × (all ≡ not (some (fails (fits digit) p) at i))
+
+abbrev μ-loop : tie.MeasureT-loop
+μ-loop p at n all₀ i₀ all i = n - i
+
+loop-holds : tie.Need-loop-holds Inv-loop μ-loop
+loop-holds c = (omega arith, all-none _ _)
+
+add-is-digit : tie.Need-add-is-digit Inv-loop μ-loop
+add-is-digit c = omega arith
+
+shared-slice-read-is-digit : tie.Need-shared-slice-read-is-digit Inv-loop μ-loop
+shared-slice-read-is-digit c = omega arith
+
+is-digit-requires : tie.Need-is-digit-requires Inv-loop μ-loop
+is-digit-requires c κs = search needs
+
+add-i : tie.Need-add-i Inv-loop μ-loop
+add-i c = omega arith
+
+loop-less : tie.Need-loop-less Inv-loop μ-loop
+loop-less c = omega arith
+
+loop-again : tie.Need-loop-again Inv-loop μ-loop
+loop-again c = (omega arith, all-more _ _ _ _ _ (c .before .before .before .loop .inv .1) (class-test _ _ (fits digit) _ (c .is-digit .ensures)))
+
+returns : tie.Need-returns Inv-loop μ-loop
+returns c = all-end _ _ _ _ _ (omega arith) (omega arith) (c .before .loop .inv .1)
+
+pub digits-in-spec : {M : Type 1} → statement M
+digits-in-spec =
+    tie.close
+    (tie.spec
+    Inv-loop
+    μ-loop
+    loop-holds
+    add-is-digit
+    shared-slice-read-is-digit
+    is-digit-requires
+    add-i
+    loop-less
+    loop-again
+    returns)
