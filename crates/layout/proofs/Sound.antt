@@ -202,6 +202,9 @@ module _ (b : List ℕ) (h : verdict b ≡ accepted) where
   unfolding verdict
   both-accept = orElse-accepts (firstRule headerRules b (length b)) (stateRules (directory b) (tallyOf (statesOf b (directory b)))) .0 h
 
+  pub accepted-entries : entries b ≤ 128
+  accepted-entries = entries-sound b (both-accept .0)
+
   accepted-states : rule16 (directory b) (tallyOf (statesOf b (directory b))) ≡ accepted
   unfolding stateRules
   accepted-states = orElse-accepts (rule15 (directory b) (tallyOf (statesOf b (directory b)))) (rule16 (directory b) (tallyOf (statesOf b (directory b)))) .0 (both-accept .1) .1

@@ -5,3 +5,4 @@ pub mod Signs
 pub mod Lines
 pub mod Held
 pub mod Same
+pub mod Whole
