@@ -1,0 +1,445 @@
+//! Products with the facts of the source documents: entry names, types, record sizes and SPH lines of
+//! GOMOS (source 001) and SCIAMACHY (source 003) products. Record contents are a pattern.
+
+use super::description::{state_record, Description, EntryDescription, Number, StateDescription};
+
+/// The facts of one product: SPH lines and entries (type, name, records, record size).
+struct Facts {
+    product: &'static str,
+    sph_lines: &'static str,
+    entries: &'static [(u8, &'static str, usize, usize)],
+}
+
+/// The products that can be built, by their product identifier.
+pub const CATALOGUE_NAMES: [&str; 8] = [
+    "GOM_NL__2P",
+    "GOM_RR__2P",
+    "GOM_EXT_2P",
+    "GOM_LIM_1P",
+    "GOM_TRA_1P",
+    "GOM_PR1_AX",
+    "SCI_RV__2P",
+    "SCI_NL__1P",
+];
+
+const GOM_NL_2P: Facts = Facts {
+    product: "GOM_NL__2P",
+    sph_lines: concat!(
+        "SPH_DESCRIPTOR=\"GOMOS LEVEL 2               \"\n",
+        "START_TIME=\"01-JAN-2000 00:00:00.000000\"\n",
+        "STOP_TIME=\"01-JAN-2000 00:00:00.000000\"\n",
+        "START_TANGENT_LAT=+0045000000<10-6degN>\n",
+        "START_TANGENT_LONG=-0012000000<10-6degE>\n",
+        "STOP_TANGENT_LAT=+0046000000<10-6degN>\n",
+        "STOP_TANGENT_LONG=-0012500000<10-6degE>\n",
+        "                                                  \n",
+        "OCC_DURATION=+00050<10-2s>\n",
+        "SAMP_DURATION=+00500<10-3s>\n",
+        "NUM_MEASURE=+00001\n",
+        "INS_STATUS=0\n",
+        "OCC_NUM=+001\n",
+        "STAR=Sirius       \n",
+        "STAR_ID=+00001\n",
+        "STAR_MAG=-01440<10-3>\n",
+        "STAR_TEMP=+0000110000<10-1K>\n",
+        "STAR_DIRECT1=+1.01287155E+02-1.67161159E+01<deg>\n",
+        "STAR_DIRECT2=+1.00000000E+00+0.00000000E+00+0.00000000E+00\n",
+        "BRIGHT_LIMB=0\n",
+        "NUM_LV2PROC=+00001\n",
+        "                               \n",
+        "REF_WAVELENGTH=+0000500000<10-3nm>\n",
+        "TIME_SHIFT=+00250<10-3s>\n",
+        "TURB_START=-00001\n",
+        "TURB_SIZE=+00000\n",
+        "CC_WIND_LENGTH=+1.50000000E+02<m>\n",
+        "                                                  \n",
+    ),
+    entries: &[
+        (b'G', "NL_SUMMARY_QUALITY", 1, 153),
+        (b'M', "NL_LOCAL_SPECIES_DENSITY", 1, 81),
+        (b'M', "NL_TANGENT_LINE_DENSITY", 1, 81),
+        (b'M', "NL_AEROSOLS", 1, 97),
+        (b'M', "NL_HIGH_RES_TEMPERATURE", 1, 253),
+        (b'A', "NL_GEOLOCATION", 1, 94),
+        (b'A', "NL_ACCURACY_ESTIMATION", 1, 671),
+        (b'R', "LEVEL-1B_PRODUCT", 0, 0),
+        (b'R', "INST_PHYS_CHARACTERISTICS", 0, 0),
+        (b'R', "LEVEL-2_PROC_CONFIG", 0, 0),
+        (b'R', "CROSS_SECTIONS_FILE", 0, 0),
+        (b' ', "", 0, 0),
+    ],
+};
+
+const GOM_RR_2P: Facts = Facts {
+    product: "GOM_RR__2P",
+    sph_lines: concat!(
+        "SPH_DESCRIPTOR=\"GOMOS EXTRACTED PROFILES    \"\n",
+        "                                                   \n",
+    ),
+    entries: &[
+        (b'M', "RR_LOCAL_SPECIES_DENSITY", 1, 81),
+        (b'A', "RR_GEOLOCATION", 1, 94),
+        (b'M', "RR_HIGH_RES_TEMPERATURE", 1, 253),
+        (b'R', "LEVEL-1B_PRODUCT", 0, 0),
+    ],
+};
+
+const GOM_EXT_2P: Facts = Facts {
+    product: "GOM_EXT_2P",
+    sph_lines: concat!(
+        "SPH_DESCRIPTOR=\"GOMOS RESIDUAL EXTINCTION   \"\n",
+        "START_TIME=\"01-JAN-2000 00:00:00.000000\"\n",
+        "STOP_TIME=\"01-JAN-2000 00:00:00.000000\"\n",
+        "START_TANGENT_LAT=+0045000000<10-6degN>\n",
+        "START_TANGENT_LONG=-0012000000<10-6degE>\n",
+        "STOP_TANGENT_LAT=+0046000000<10-6degN>\n",
+        "STOP_TANGENT_LONG=-0012500000<10-6degE>\n",
+        "                                                  \n",
+        "OCC_DURATION=+00050<10-2s>\n",
+        "SAMP_DURATION=+00500<10-3s>\n",
+        "NUM_MEASURE=+00001\n",
+        "INS_STATUS=0\n",
+        "OCC_NUM=+001\n",
+        "STAR=Sirius       \n",
+        "STAR_ID=+00001\n",
+        "STAR_MAG=-01440<10-3>\n",
+        "STAR_TEMP=+0000110000<10-1K>\n",
+        "STAR_DIRECT1=+1.01287155E+02-1.67161159E+01<deg>\n",
+        "STAR_DIRECT2=+1.00000000E+00+0.00000000E+00+0.00000000E+00\n",
+        "BRIGHT_LIMB=0\n",
+        "NUM_LV2PROC=+00001\n",
+        "                               \n",
+        "REF_WAVELENGTH=+0000500000<10-3nm>\n",
+        "TIME_SHIFT=+00250<10-3s>\n",
+        "MEAN_WAVELENGTH=+0000495000<10-3nm>\n",
+        "                                                  \n",
+    ),
+    entries: &[
+        (b'G', "EXT_SUMMARY_QUALITY", 1, 153),
+        (b'G', "EXT_NOM_WAV_ASSIGNMENT", 1, 9408),
+        (b'M', "EXT_MDS", 1, 25709),
+        (b'A', "EXT_ADS", 1, 4733),
+        (b'R', "LEVEL-1B_PRODUCT", 0, 0),
+        (b'R', "INST_PHYS_CHARACTERISTICS", 0, 0),
+        (b'R', "LEVEL-2_PROC_CONFIG", 0, 0),
+        (b'R', "CROSS_SECTIONS_FILE", 0, 0),
+        (b' ', "", 0, 0),
+    ],
+};
+
+const GOM_LIM_1P: Facts = Facts {
+    product: "GOM_LIM_1P",
+    sph_lines: concat!(
+        "SPH_DESCRIPTOR=\"GOMOS LIMB                  \"\n",
+        "START_TIME=\"01-JAN-2000 00:00:00.000000\"\n",
+        "STOP_TIME=\"01-JAN-2000 00:00:00.000000\"\n",
+        "START_TANGENT_LAT=+0045000000<10-6degN>\n",
+        "START_TANGENT_LONG=-0012000000<10-6degE>\n",
+        "STOP_TANGENT_LAT=+0046000000<10-6degN>\n",
+        "STOP_TANGENT_LONG=-0012500000<10-6degE>\n",
+        "                                                  \n",
+        "OCC_DURATION=+00050<10-2s>\n",
+        "SAMP_DURATION=+00500<10-3s>\n",
+        "NUM_MEASURE=+00001\n",
+        "INS_STATUS=0\n",
+        "OCC_NUM=+001\n",
+        "STAR=Sirius       \n",
+        "STAR_ID=+00001\n",
+        "STAR_MAG=-01440<10-3>\n",
+        "STAR_TEMP=+0000110000<10-1K>\n",
+        "STAR_DIRECT1=+1.01287155E+02-1.67161159E+01<deg>\n",
+        "STAR_DIRECT2=+1.00000000E+00+0.00000000E+00+0.00000000E+00\n",
+        "BRIGHT_LIMB=0\n",
+        "                                                  \n",
+    ),
+    entries: &[
+        (b'G', "LIM_SUMMARY_QUALITY", 1, 76),
+        (b'G', "LIM_OCCULTATION_DATA", 1, 1053),
+        (b'G', "LIM_NOM_WAV_ASSIGNMENT", 1, 9408),
+        (b'M', "LIM_MDS", 1, 28045),
+        (b'A', "LIM_ADS", 1, 133),
+        (b'R', "LEVEL_0_PRODUCT", 0, 0),
+        (b'R', "INST_PHYS_CHARACTERISTICS", 0, 0),
+        (b'R', "CALIBRATION_DATABASE", 0, 0),
+        (b'R', "LEVEL-1B_PROC_CONFIG", 0, 0),
+        (b'R', "STAR_CATALOGUE", 0, 0),
+        (b'R', "STELLAR_SPECTRA_DATABANK", 0, 0),
+        (b'R', "ECMWF_FILE", 0, 0),
+        (b'R', "OPTIONAL_ECMWF_FILE", 0, 0),
+        (b'R', "ORBIT_DATA_FILE", 0, 0),
+        (b'R', "ATTITUDE_FILE", 0, 0),
+    ],
+};
+
+const GOM_TRA_1P: Facts = Facts {
+    product: "GOM_TRA_1P",
+    sph_lines: concat!(
+        "SPH_DESCRIPTOR=\"GOMOS LEVEL 1B              \"\n",
+        "START_TIME=\"01-JAN-2000 00:00:00.000000\"\n",
+        "STOP_TIME=\"01-JAN-2000 00:00:00.000000\"\n",
+        "START_TANGENT_LAT=+0045000000<10-6degN>\n",
+        "START_TANGENT_LONG=-0012000000<10-6degE>\n",
+        "STOP_TANGENT_LAT=+0046000000<10-6degN>\n",
+        "STOP_TANGENT_LONG=-0012500000<10-6degE>\n",
+        "                                                  \n",
+        "OCC_DURATION=+00050<10-2s>\n",
+        "SAMP_DURATION=+00500<10-3s>\n",
+        "NUM_MEASURE=+00001\n",
+        "INS_STATUS=0\n",
+        "OCC_NUM=+001\n",
+        "STAR=Sirius       \n",
+        "STAR_ID=+00001\n",
+        "STAR_MAG=-01440<10-3>\n",
+        "STAR_TEMP=+0000110000<10-1K>\n",
+        "STAR_DIRECT1=+1.01287155E+02-1.67161159E+01<deg>\n",
+        "STAR_DIRECT2=+1.00000000E+00+0.00000000E+00+0.00000000E+00\n",
+        "BRIGHT_LIMB=0\n",
+        "                                                  \n",
+    ),
+    entries: &[
+        (b'G', "TRA_SUMMARY_QUALITY", 1, 76),
+        (b'G', "TRA_OCCULTATION_DATA", 1, 16200),
+        (b'G', "TRA_NOM_WAV_ASSIGNMENT", 1, 9408),
+        (b'G', "TRA_REF_STAR_SPECTRUM", 1, 11684),
+        (b'G', "TRA_REF_ATM_DENS_PROFILE", 1, 413),
+        (b'M', "TRA_TRANSMISSION", 1, 36921),
+        (b'M', "TRA_SATU_AND_SFA_DATA", 1, 453),
+        (b'A', "TRA_AUXILIARY_DATA", 1, 4725),
+        (b'A', "TRA_GEOLOCATION", 2, 2585),
+        (b'R', "LEVEL_0_PRODUCT", 0, 0),
+        (b'R', "INST_PHYS_CHARACTERISTICS", 0, 0),
+        (b'R', "CALIBRATION_DATABASE", 0, 0),
+        (b'R', "LEVEL-1B_PROC_CONFIG", 0, 0),
+        (b'R', "STAR_CATALOGUE", 0, 0),
+        (b'R', "STELLAR_SPECTRA_DATABANK", 0, 0),
+        (b'R', "ECMWF_FILE", 0, 0),
+        (b'R', "OPTIONAL_ECMWF_FILE", 0, 0),
+        (b'R', "ORBIT_DATA_FILE", 0, 0),
+        (b'R', "ATTITUDE_FILE", 0, 0),
+    ],
+};
+
+const GOM_PR1_AX: Facts = Facts {
+    product: "GOM_PR1_AX",
+    sph_lines: concat!(
+        "SPH_DESCRIPTOR=\"GOMOS LEVEL 1B CONFIG       \"\n",
+        "                                                   \n",
+    ),
+    entries: &[(b'G', "PR1_GENERAL", 1, 346), (b'G', "PR1_ATMOSPHERE", 1, 244)],
+};
+
+const SCI_RV_2P: Facts = Facts {
+    product: "SCI_RV__2P",
+    sph_lines: concat!(
+        "SPH_DESCRIPTOR=\"SCI_RV__2P SPECIFIC HEADER  \"\n",
+        "STRIPLINE_CONTINUITY_INDICATOR=+000\n",
+        "SLICE_POSITION=+001\n",
+        "NUM_SLICES=+001\n",
+        "START_TIME=\"27-JUN-2007 10:00:00.000000\"\n",
+        "STOP_TIME=\"27-JUN-2007 11:40:00.000000\"\n",
+        "START_LAT=+0045000000<10-6degN>\n",
+        "START_LONG=-0012500000<10-6degE>\n",
+        "STOP_LAT=-0030000000<10-6degN>\n",
+        "STOP_LONG=+0179999999<10-6degE>\n",
+        "                                                  \n",
+        "FITTING_ERROR_SUM=\"GOOD\"\n",
+        "DOAS_FITTING_WINDOW_0=\" 325- 335\"\n",
+    ),
+    entries: &[
+        (b'A', "GEOLOCATION", 5, 47),
+        (b'M', "O3_VERTICAL_COLUMN", 5, 23),
+        (b'R', "SCI_NL__2P", 0, 0),
+    ],
+};
+
+const SCI_NL_1P: Facts = Facts {
+    product: "SCI_NL__1P",
+    sph_lines: concat!(
+        "SPH_DESCRIPTOR=\"SCI_NL__1P SPECIFIC HEADER  \"\n",
+        "STRIPLINE_CONTINUITY_INDICATOR=+000\n",
+        "SLICE_POSITION=+001\n",
+        "NUM_SLICES=+001\n",
+        "START_TIME=\"27-JUN-2007 10:00:00.000000\"\n",
+        "STOP_TIME=\"27-JUN-2007 11:40:00.000000\"\n",
+        "START_LAT=+0045000000<10-6degN>\n",
+        "START_LONG=-0012500000<10-6degE>\n",
+        "STOP_LAT=-0030000000<10-6degN>\n",
+        "STOP_LONG=+0179999999<10-6degE>\n",
+        "                                                  \n",
+        "KEY_DATA_VERSION=\"01.25\"\n",
+        "M_FACTOR_VERSION=\"01.25\"\n",
+        "SPECTRAL_CAL_CHECK_SUM=\"GOOD\"\n",
+        "SATURATED_PIXEL=\"FAIR\"\n",
+        "DEAD_PIXEL=\"BAD \"\n",
+        "DARK_CHECK_SUM=      \n",
+        "NO_OF_NADIR_STATES=+025\n",
+        "NO_OF_LIMB_STATES=+025\n",
+        "NO_OF_OCCULTATION_STATES=+001\n",
+        "NO_OF_MONI_STATES=+002\n",
+        "NO_OF_NOPROC_STATES=+003\n",
+        "COMP_DARK_STATES=    \n",
+        "INCOMP_DARK_STATES=    \n",
+        "    \n",
+    ),
+    entries: &[
+        (b'A', "SUMMARY_QUALITY", 7, 182),
+        (b'A', "GEOLOCATION", 7, 45),
+        (b'G', "INSTRUMENT_PARAMS", 1, 382),
+        (b'G', "LEAKAGE_CONSTANT", 0, 163952),
+        (b'G', "LEAKAGE_VARIABLE", 0, 90228),
+        (b'G', "PPG_ETALON", 0, 139264),
+        (b'G', "SPECTRAL_BASE", 0, 32768),
+        (b'G', "SPECTRAL_CALIBRATION", 2, 372),
+        (b'G', "SUN_REFERENCE", 0, 163942),
+        (b'G', "POL_SENS_NADIR", 0, 65540),
+        (b'G', "POL_SENS_LIMB", 0, 65544),
+        (b'G', "POL_SENS_OCC", 0, 65544),
+        (b'G', "RAD_SENS_NADIR", 0, 32772),
+        (b'G', "RAD_SENS_LIMB", 0, 32776),
+        (b'G', "RAD_SENS_OCC", 0, 32776),
+        (b'G', "ERRORS_ON_KEY_DATA", 0, 294912),
+        (b'G', "SLIT_FUNCTION", 40, 11),
+        (b'G', "SMALL_AP_SLIT_FUNCTION", 40, 11),
+        (b'A', "STATES", 0, 0),
+        (b'A', "PMD_PACKETS", 0, 6833),
+        (b'A', "AUXILIARY_PACKETS", 1, 1679),
+        (b'A', "NEW_LEAKAGE", 0, 164021),
+        (b'A', "DARK_AVERAGE", 0, 131253),
+        (b'A', "NEW_PPG_ETALON", 0, 172045),
+        (b'A', "NEW_SPECTRAL_CALIBRATION", 0, 33257),
+        (b'A', "NEW_SUN_REFERENCE", 0, 163928),
+        (b'M', "NADIR", 0, 0),
+        (b'M', "LIMB", 0, 0),
+        (b'M', "OCCULTATION", 0, 0),
+        (b'M', "MONITORING", 0, 0),
+        (b'R', "LEVEL_0_PRODUCT", 0, 0),
+        (b'R', "LEAKAGE_FILE", 0, 0),
+        (b'R', "PPG_ETALON_FILE", 0, 0),
+        (b'R', "SPECTRAL_FILE", 0, 0),
+        (b'R', "SUN_REF_FILE", 0, 0),
+        (b'R', "KEY_DATA_FILE", 0, 0),
+        (b'R', "M_FACTOR_FILE", 0, 0),
+        (b'R', "INIT_FILE", 0, 0),
+        (b'R', "ORBIT_FILE", 0, 0),
+        (b'R', "ATTITUDE_FILE", 0, 0),
+        (b' ', "", 0, 0),
+    ],
+};
+
+/// The states of the SCI_NL__1P built here.
+const STATES: [(u8, u8, u16, u32); 7] = [
+    (0, 1, 3, 40),
+    (0, 2, 2, 55),
+    (1, 1, 7, 99),
+    (0, 1, 2, 25),
+    (0, 3, 1, 60),
+    (0, 4, 2, 33),
+    (0, 2, 0, 0),
+];
+
+fn described(facts: &Facts) -> Description {
+    let mut description = Description::new(Vec::new());
+    for &(set_type, name, count, record_size) in facts.entries {
+        let mut entry = match set_type {
+            b' ' => EntryDescription::spare(),
+            _ => EntryDescription::records(set_type, name, count, record_size),
+        };
+        if count == 0 && matches!(set_type, b'M' | b'A' | b'G') {
+            entry.filename = b"NOT USED".to_vec();
+            entry.record_size = Some(Number::from(0));
+        } else if set_type == b'R' {
+            entry.filename = b"MISSING".to_vec();
+        } else {
+            entry.filename = b"ATTACHED".to_vec();
+        }
+        description.entries.push(entry);
+    }
+    description.sph_lines = facts.sph_lines.into();
+    describe_header(&mut description, facts.product);
+    description
+}
+
+/// Main header values of the form that source documents show.
+fn describe_header(description: &mut Description, product: &str) {
+    description
+        .set_text("PRODUCT", &format!("{product}NACR20070627_100000_000060002059_00123_27863_0001.N1"));
+    description.set_single("PROC_STAGE", b'N');
+    description.set_text("REF_DOC", "PO-RS-MDA-GS-2009_10_3K");
+    description.set_text("PROC_TIME", "28-JUN-2007 01:02:03.456789");
+    description.set_text("SENSING_START", "27-JUN-2007 10:00:00.000000");
+    description.set_text("SENSING_STOP", "27-JUN-2007 11:40:00.000000");
+    description.set_single("PHASE", b'2');
+    description.set_number("CYCLE", 59);
+    description.set_number("REL_ORBIT", 123);
+    description.set_number("ABS_ORBIT", 27863);
+    description.set_number("DELTA_UT1", -160_123);
+    description.set_number("X_POSITION", -7_123_456_789);
+    description.set_number("Z_VELOCITY", 7_377_123_456);
+    description.set_text("VECTOR_SOURCE", "FP");
+    description.set_number("CLOCK_STEP", 3_906_249_800);
+}
+
+/// Puts the states and the four variable sets they describe into a SCI_NL__1P.
+fn attach_states(description: &mut Description) {
+    let states = STATES.map(|(flag, kind, count, length)| {
+        state_record(StateDescription { flag, kind, count, length })
+    });
+    for entry in &mut description.entries {
+        let kind = match entry.name.as_slice() {
+            b"STATES" => {
+                *entry = EntryDescription::records(b'A', "STATES", states.len(), 1387);
+                entry.data = states.concat();
+                continue;
+            }
+            b"NADIR" => 1,
+            b"LIMB" => 2,
+            b"OCCULTATION" => 3,
+            b"MONITORING" => 4,
+            _ => continue,
+        };
+        let attached = STATES.iter().filter(|state| state.0 == 0 && state.1 == kind);
+        let (count, size) = attached.fold((0, 0), |(count, size), state| {
+            let records = usize::from(state.2);
+            (count + records, size + records * state.3 as usize)
+        });
+        let name = String::from_utf8_lossy(&entry.name).into_owned();
+        *entry = EntryDescription::variable(&name, count, size);
+    }
+}
+
+/// Puts the nodes of the ray tracing grid into TRA_GEOLOCATION: latitude, longitude and altitude of node
+/// n at 161, 761 and 1361 + 4n.
+fn trace_rays(description: &mut Description) {
+    for entry in description.entries.iter_mut().filter(|entry| entry.name == b"TRA_GEOLOCATION") {
+        for record in entry.data.chunks_exact_mut(2585) {
+            for node in 0..150 {
+                let number = node as i32;
+                let latitude = (45_000_000 - 12_345 * number).to_be_bytes();
+                let longitude = (-12_000_000 + 54_321 * number).to_be_bytes();
+                let altitude = (12_000_001 - 70_007 * number).to_be_bytes();
+                for (start, bytes) in [(161, latitude), (761, longitude), (1361, altitude)] {
+                    record[start + 4 * node..start + 4 * node + 4].copy_from_slice(&bytes);
+                }
+            }
+        }
+    }
+}
+
+/// The description of a product of the catalogue.
+pub(super) fn catalogue_description(name: &str) -> Option<Description> {
+    let all = [
+        &GOM_NL_2P,
+        &GOM_RR_2P,
+        &GOM_EXT_2P,
+        &GOM_LIM_1P,
+        &GOM_TRA_1P,
+        &GOM_PR1_AX,
+        &SCI_RV_2P,
+        &SCI_NL_1P,
+    ];
+    let facts = all.into_iter().find(|facts| facts.product == name)?;
+    let mut description = described(facts);
+    attach_states(&mut description);
+    trace_rays(&mut description);
+    Some(description)
+}

@@ -1,0 +1,270 @@
+//! Damaged products at random: a good description is changed with a rule in mind, or bytes are.
+
+use super::description::{Description, EntryDescription, Number};
+use super::generator::{Generator, VARIABLE_NAMES};
+
+impl Generator {
+    /// A product damaged once or twice, most often one that is refused.
+    pub fn damaged(&mut self) -> Vec<u8> {
+        let mut description = self.good_description();
+        let aims = [self.aim(), self.aim()];
+        let aims = if self.once_in(3) { &aims[..] } else { &aims[..1] };
+        for &aim in aims {
+            self.damage_description(&mut description, aim);
+        }
+        let lines_end = description.lines_end();
+        let mut product = description.build();
+        for &aim in aims {
+            self.damage_bytes(&mut product, lines_end, aim);
+        }
+        product
+    }
+
+    /// A good product or a damaged one.
+    pub fn any(&mut self) -> Vec<u8> {
+        if self.once_in(3) {
+            self.good()
+        } else {
+            self.damaged()
+        }
+    }
+
+    /// A rule 1 to 16 but 2, and 0 for bytes anywhere.
+    fn aim(&mut self) -> u8 {
+        match self.below(17) as u8 {
+            2 => 0,
+            aim => aim,
+        }
+    }
+
+    fn damage_description(&mut self, description: &mut Description, aim: u8) {
+        match aim {
+            4 => description.set_number("TOT_SIZE", self.too_large()),
+            5 => self.damage_length(description),
+            6 => self.damage_header_sizes(description),
+            7 => self.damage_lines(description),
+            9 => self.damage_magnitudes(description),
+            10 => self.damage_numbers(description),
+            11 => {
+                let number = self.near(description.data_sets() as i128);
+                description.set_number("NUM_DATA_SETS", number);
+            }
+            12 | 13 => self.damage_offset(description, aim),
+            14 => self.damage_filling(description),
+            15 => self.damage_states(description),
+            16 => self.damage_counts(description),
+            _ => {}
+        }
+    }
+
+    fn damage_bytes(&mut self, product: &mut Vec<u8>, lines_end: usize, aim: u8) {
+        let (start, end) = match aim {
+            1 => {
+                product.truncate(self.index(1300));
+                return;
+            }
+            0 => (0, product.len()),
+            3 => (0, 1247),
+            8 if product.len() > lines_end => (lines_end, product.len()),
+            _ => return,
+        };
+        if start < end && end <= product.len() {
+            let place = start + self.index((end - start).min(3000));
+            product[place] = match self.below(3) {
+                0 => self.next_number() as u8,
+                1 => self.choose(b" \n\"0+-=A."),
+                _ => product[place].wrapping_add(1),
+            };
+        }
+    }
+
+    fn too_large(&mut self) -> Number {
+        let magnitude = match self.below(4) {
+            0 => 1 << 63,
+            1 => (1 << 64) + 1247,
+            2 => 99_999_999_999_999_999_999,
+            _ => (1 << 63) + u128::from(self.next_number() >> 1),
+        };
+        Number { minus: self.once_in(2), magnitude }
+    }
+
+    /// A number close to another one, or its negative.
+    fn near(&mut self, number: i128) -> Number {
+        let change = self.choose(&[-1, 1, 2, -2, 5]);
+        Number::from(if self.once_in(5) { -number - 1 } else { number + change })
+    }
+
+    fn damage_length(&mut self, description: &mut Description) {
+        let length = description.length() as i128;
+        let number = match self.below(3) {
+            0 => Number::from(-length),
+            1 => Number::from(i128::from(i64::MAX)),
+            _ => self.near(length),
+        };
+        description.set_number("TOT_SIZE", number);
+    }
+
+    fn damage_header_sizes(&mut self, description: &mut Description) {
+        let (keyword, exact) = match self.below(3) {
+            0 => ("SPH_SIZE", description.headers_end() as i128 - 1247),
+            1 => ("NUM_DSD", description.entries.len() as i128),
+            _ => ("DSD_SIZE", 280),
+        };
+        let number = match self.below(3) {
+            0 => self.near(exact),
+            1 => Number::from(self.choose(&[129, 49_153, 9_999_999_999, -1, 128, 0])),
+            _ => Number::from(exact + self.choose(&[280, -280, 560])),
+        };
+        description.set_number(keyword, number);
+    }
+
+    fn damage_lines(&mut self, description: &mut Description) {
+        const BAD: [&[u8]; 14] = [
+            b"\n",
+            b"A=\n",
+            b"A=\"\n",
+            b"A=\"x\" \n",
+            b"A=\"a\"b\"\n",
+            b"A=1",
+            b"   ",
+            b" A=1\n",
+            b"a=1\n",
+            b"1A=1\n",
+            b"_A=1\n",
+            b"A =1\n",
+            b"A=\x7f\n",
+            b"A=1\r\n",
+        ];
+        let mut places = vec![0];
+        places.extend(
+            (1..).zip(&description.sph_lines).filter(|(_, &byte)| byte == b'\n').map(|at| at.0),
+        );
+        let place = self.choose(&places);
+        let bad = self.choose(&BAD);
+        description.sph_lines.splice(place..place, bad.iter().copied());
+        let order: Vec<usize> = (0..description.entries.len()).collect();
+        description.place_in_order(&order);
+    }
+
+    /// An entry that has a non-empty set, made if there is none.
+    fn filled_entry<'a>(&mut self, description: &'a mut Description) -> &'a mut EntryDescription {
+        let mut filled: Vec<usize> = (0..description.entries.len()).collect();
+        filled.retain(|&entry| !description.entries[entry].data.is_empty());
+        if filled.is_empty() {
+            filled.push(description.entries.len());
+            description.entries.push(EntryDescription::records(b'G', "DEMO", 2, 5));
+            description.place_in_order(&filled);
+        }
+        let entry = self.choose(&filled);
+        &mut description.entries[entry]
+    }
+
+    fn damage_magnitudes(&mut self, description: &mut Description) {
+        let number = Some(self.too_large());
+        let size = self.once_in(2);
+        let entry = self.filled_entry(description);
+        if size {
+            entry.size = number;
+        } else {
+            entry.offset = number;
+        }
+    }
+
+    fn damage_numbers(&mut self, description: &mut Description) {
+        let which = self.below(6);
+        let value = self.choose(&[-1, 0, 1, -2, 2, 7, 1387]);
+        let entry = self.filled_entry(description);
+        let number = Some(Number::from(value));
+        match which {
+            0 => entry.offset = Some(Number::from(-5)),
+            1 => entry.size = number,
+            2 => entry.count = number,
+            3 => entry.record_size = number,
+            4 => entry.set_type = b'R',
+            _ => entry.name = b"NADIR_".to_vec(),
+        }
+    }
+
+    fn damage_offset(&mut self, description: &mut Description, aim: u8) {
+        let (start, length) = (description.headers_end() as i128, description.length() as i128);
+        let room = (length - start).max(1) as u64;
+        let offset = match (aim, self.below(4)) {
+            (12, 0) => start - 1,
+            (12, 1) => i128::from(i64::MAX),
+            (12, 2) => length,
+            (12, _) => i128::from(self.below(1300)),
+            _ => start + i128::from(self.below(room)),
+        };
+        self.filled_entry(description).offset = Some(Number::from(offset));
+    }
+
+    fn damage_filling(&mut self, description: &mut Description) {
+        if self.once_in(2) {
+            description.after = vec![b'x'; 1 + self.index(9)];
+            return;
+        }
+        let entry = self.filled_entry(description);
+        let count = entry.count.map_or(1, |count| count.magnitude);
+        let size = entry.data.len() as i128;
+        if count > 1 && size % count as i128 == 0 {
+            entry.count = Some(Number::from(count as i128 - 1));
+            entry.size = Some(Number::from(size - size / count as i128));
+        }
+    }
+
+    /// The entry of the states; STATES and a set of each kind are put in if there is none.
+    fn states<'a>(&mut self, description: &'a mut Description) -> &'a mut EntryDescription {
+        let is_states = |entry: &EntryDescription| entry.name == b"STATES" && entry.set_type == b'A';
+        if !description.entries.iter().any(is_states) {
+            let name = self.choose(&VARIABLE_NAMES);
+            description.entries.push(EntryDescription::records(b'A', "STATES", 2, 1387));
+            description.entries.push(EntryDescription::variable(name, 2, 9));
+            let order: Vec<usize> = (0..description.entries.len()).collect();
+            description.place_in_order(&order);
+        }
+        let place = description.entries.iter().position(is_states).unwrap_or(0);
+        &mut description.entries[place]
+    }
+
+    fn damage_states(&mut self, description: &mut Description) {
+        let (which, byte) = (self.below(7), self.choose(&[0, 1, 2, 5, 255]));
+        let entry = self.states(description);
+        let records = entry.data.len() / 1387;
+        let record = which as usize % records.max(1) * 1387;
+        match which {
+            0 => entry.name = b"STATE".to_vec(),
+            1 => entry.set_type = b'G',
+            2 => {
+                entry.record_size = Some(Number::from(entry.data.len() as i128));
+                entry.count = Some(Number::from(1));
+            }
+            3 => {
+                let another = EntryDescription::new(b'A', "STATES", Vec::new());
+                description.entries.push(another);
+                let order: Vec<usize> = (0..description.entries.len()).collect();
+                description.place_in_order(&order);
+            }
+            4 => entry.data[record + 12] = byte,
+            5 => entry.data[record + 1116] = byte,
+            _ => entry.data[record + 1383..record + 1387].fill(0),
+        }
+    }
+
+    fn damage_counts(&mut self, description: &mut Description) {
+        let (which, byte) = (self.below(4), self.below(4) as u8);
+        let entry = self.states(description);
+        match which {
+            0 => entry.data[1382] = byte,
+            1 => entry.data[1386] = 1 + byte,
+            2 => entry.data[12] = 1,
+            _ => {
+                let variable =
+                    |entry: &&mut EntryDescription| entry.record_size == Some(Number::from(-1));
+                let mut sets = description.entries.iter_mut().filter(variable);
+                if let Some(set) = sets.find(|set| !set.data.is_empty()) {
+                    set.count = Some(Number::from(1 + i128::from(byte)));
+                }
+            }
+        }
+    }
+}

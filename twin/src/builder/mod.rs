@@ -1,0 +1,14 @@
+//! Building products: from a description, by name, from facts of the source documents, or at random.
+//! Nothing here uses the reader's layout tables.
+
+mod catalogue;
+mod damage;
+mod description;
+mod generator;
+mod header_text;
+mod named;
+
+pub use catalogue::CATALOGUE_NAMES;
+pub use description::{state_record, Description, EntryDescription, Number, Setting, StateDescription};
+pub use generator::Generator;
+pub use named::{named_product, wrapping_states, NamedProduct, Request, NAMED_PRODUCTS};

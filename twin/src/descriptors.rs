@@ -1,0 +1,181 @@
+//! The directory of data set descriptors: rules 8 to 11.
+
+use crate::layout::{
+    descriptor_value, DESCRIPTOR_SIZE, DESCRIPTOR_SPANS, DESCRIPTOR_TEMPLATE, SPARE_DESCRIPTOR,
+};
+use crate::main_header::{HeaderSizes, NUM_DATA_SETS_PLACE};
+use crate::refusal::Refusal;
+use crate::text::{first_different, first_fault, long, whole};
+
+/// The most entries, held together.
+pub const ENTRIES: usize = 128;
+/// The type of a spare entry: what stands at the place of its type is a blank.
+pub(crate) const SPARE: u8 = b' ';
+/// Bytes of a DS_NAME.
+pub(crate) const NAME_LENGTH: usize = 28;
+/// Bytes of a FILENAME.
+pub(crate) const FILENAME_LENGTH: usize = 62;
+
+const DS_NAME: usize = descriptor_value("DS_NAME");
+const DS_TYPE: usize = descriptor_value("DS_TYPE");
+const FILENAME: usize = descriptor_value("FILENAME");
+const DS_OFFSET: usize = descriptor_value("DS_OFFSET");
+const DS_SIZE: usize = descriptor_value("DS_SIZE");
+const NUM_DSR: usize = descriptor_value("NUM_DSR");
+const DSR_SIZE: usize = descriptor_value("DSR_SIZE");
+
+/// A DS_NAME padded with blanks.
+pub(crate) const fn padded(name: &str) -> [u8; NAME_LENGTH] {
+    let mut bytes = [b' '; NAME_LENGTH];
+    let mut index = 0;
+    while index < name.len() {
+        bytes[index] = name.as_bytes()[index];
+        index += 1;
+    }
+    bytes
+}
+
+/// The names of variable sets; the MDS kind of a set is one more than its place here.
+const VARIABLE_NAMES: [[u8; NAME_LENGTH]; 4] =
+    [padded("NADIR"), padded("LIMB"), padded("OCCULTATION"), padded("MONITORING")];
+
+/// The MDS kind, 1 to 4, that a name stands for.
+pub(crate) fn variable_kind(name: &[u8]) -> Option<u8> {
+    (1..).zip(&VARIABLE_NAMES).find(|(_, known)| name == *known).map(|(kind, _)| kind)
+}
+
+/// The DS_NAME in a DSD.
+pub(crate) fn name_in(descriptor: &[u8]) -> &[u8] {
+    &descriptor[DS_NAME..DS_NAME + NAME_LENGTH]
+}
+
+/// The FILENAME in a DSD.
+pub(crate) fn filename_in(descriptor: &[u8]) -> &[u8] {
+    &descriptor[FILENAME..FILENAME + FILENAME_LENGTH]
+}
+
+/// One entry's type and numbers.
+#[derive(Clone, Copy)]
+pub(crate) struct Entry {
+    pub set_type: u8,
+    pub offset: i64,
+    pub size: i64,
+    pub count: i64,
+    pub record_size: i64,
+}
+
+impl Entry {
+    const NONE: Entry = Entry { set_type: 0, offset: 0, size: 0, count: 0, record_size: 0 };
+
+    /// Types M, A and G have a data set, which may be empty.
+    pub fn has_set(&self) -> bool {
+        matches!(self.set_type, b'M' | b'A' | b'G')
+    }
+
+    /// Whether bytes of the product belong to this entry (rule 10 leaves R and spares none).
+    pub fn is_filled(&self) -> bool {
+        self.size > 0
+    }
+
+    /// Whether the records have unequal lengths, told by the states.
+    pub fn is_variable(&self) -> bool {
+        self.size > 0 && self.record_size == -1
+    }
+}
+
+/// The entries of the directory, in order.
+pub(crate) struct Entries {
+    list: [Entry; ENTRIES],
+    count: usize,
+}
+
+impl Entries {
+    pub const NONE: Entries = Entries { list: [Entry::NONE; ENTRIES], count: 0 };
+
+    pub fn all(&self) -> &[Entry] {
+        &self.list[..self.count]
+    }
+}
+
+/// Rules 8 to 11, filling the entries.
+pub(crate) fn check_descriptors(
+    product: &[u8],
+    sizes: &HeaderSizes,
+    entries: &mut Entries,
+) -> Result<(), Refusal> {
+    read_descriptors(product, sizes, entries)?;
+    for (entry, values) in entries.all().iter().enumerate() {
+        let place = sizes.lines_end + entry * DESCRIPTOR_SIZE;
+        if !numbers_hold(values, &product[place..place + DESCRIPTOR_SIZE]) {
+            return Err(Refusal::of_entry(10, place as u64, entry));
+        }
+    }
+    let sets = entries.all().iter().filter(|entry| entry.has_set()).count();
+    if sizes.data_sets != sets as i64 {
+        return Err(Refusal::without_entry(11, NUM_DATA_SETS_PLACE));
+    }
+    Ok(())
+}
+
+/// Rules 8 and 9 in one pass: a rule 9 refusal waits until rule 8 holds for every entry.
+fn read_descriptors(product: &[u8], sizes: &HeaderSizes, entries: &mut Entries) -> Result<(), Refusal> {
+    entries.count = sizes.descriptors;
+    let mut too_large = None;
+    for entry in 0..sizes.descriptors {
+        let place = sizes.lines_end + entry * DESCRIPTOR_SIZE;
+        let descriptor = &product[place..place + DESCRIPTOR_SIZE];
+        if let Some(fault) = first_fault_in_descriptor(descriptor) {
+            return Err(Refusal::of_entry(8, (place + fault) as u64, entry));
+        }
+        match read_entry(descriptor) {
+            Ok(values) => entries.list[entry] = values,
+            Err(sign) if too_large.is_none() => {
+                too_large = Some(Refusal::of_entry(9, (place + sign) as u64, entry));
+            }
+            Err(_) => {}
+        }
+    }
+    too_large.map_or(Ok(()), Err)
+}
+
+/// The first byte of a DSD that is not as laid out; a blank first byte asks for the spare layout.
+fn first_fault_in_descriptor(descriptor: &[u8]) -> Option<usize> {
+    if descriptor[0] == b' ' {
+        first_different(descriptor, &SPARE_DESCRIPTOR)
+    } else {
+        first_fault(descriptor, &DESCRIPTOR_TEMPLATE, &DESCRIPTOR_SPANS)
+    }
+}
+
+/// The values of a DSD that is as laid out, or the place in it of the sign of a number too large.
+fn read_entry(descriptor: &[u8]) -> Result<Entry, usize> {
+    if descriptor[0] == b' ' {
+        return Ok(Entry { set_type: SPARE, ..Entry::NONE });
+    }
+    Ok(Entry {
+        set_type: descriptor[DS_TYPE],
+        offset: long(descriptor, DS_OFFSET).ok_or(DS_OFFSET)?,
+        size: long(descriptor, DS_SIZE).ok_or(DS_SIZE)?,
+        count: whole(descriptor, NUM_DSR, 10),
+        record_size: whole(descriptor, DSR_SIZE, 10),
+    })
+}
+
+/// Rule 10 for one entry.
+fn numbers_hold(entry: &Entry, descriptor: &[u8]) -> bool {
+    let Entry { set_type, offset, size, count, record_size } = *entry;
+    match set_type {
+        SPARE => true,
+        b'R' => (offset, size, count, record_size) == (0, 0, 0, 0),
+        _ if offset < 0 || size < 0 || count < 0 || record_size < -1 => false,
+        _ if size == 0 => count == 0,
+        _ if record_size == -1 => {
+            count >= 1 && set_type == b'M' && variable_kind(name_in(descriptor)).is_some()
+        }
+        _ => {
+            count >= 1
+                && record_size >= 1
+                && i128::from(count) * i128::from(record_size) == i128::from(size)
+        }
+    }
+}

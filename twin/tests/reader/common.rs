@@ -1,0 +1,56 @@
+//! What the tests share: short forms of verdicts and requests, and the seed.
+
+use twin::builder::{Description, EntryDescription, Number, Request};
+use twin::{field, judge, point, record_place, Refusal, Verdict};
+
+pub const NONE: usize = 128;
+
+pub fn refused(number: u8, place: u64, entry: usize) -> Verdict {
+    Verdict::Refused { number, place, entry }
+}
+
+pub fn refusal(number: u8, place: u64, entry: usize) -> Refusal {
+    Refusal { number, place, entry }
+}
+
+pub fn verdict_on(description: &Description) -> Verdict {
+    judge(&description.build())
+}
+
+pub fn number(value: i128) -> Option<Number> {
+    Some(Number::from(value))
+}
+
+/// Case B's entry.
+pub fn demo() -> EntryDescription {
+    EntryDescription::records(b'G', "DEMO", 3, 5)
+}
+
+/// The verdict on a product of one entry, case B's as changed.
+pub fn verdict_on_demo(change: impl FnOnce(&mut EntryDescription)) -> Verdict {
+    let mut entry = demo();
+    change(&mut entry);
+    verdict_on(&Description::new(vec![entry]))
+}
+
+/// Whether a request is answered or how it is refused.
+pub fn answer(product: &[u8], request: Request) -> Verdict {
+    let refused = match request {
+        Request::Judge => return judge(product),
+        Request::Record { entry, record } => record_place(product, entry, record).err(),
+        Request::Field { entry, record, offset, kind } => {
+            field(product, entry, record, offset, kind).err()
+        }
+        Request::Point { entry, record, offsets: [latitude, longitude, altitude] } => {
+            point(product, entry, record, latitude, longitude, altitude).err()
+        }
+    };
+    refused.map_or(Verdict::Accepted, Verdict::from)
+}
+
+/// The seed of the random tests: TWIN_SEED, or a fixed one.
+pub fn seed() -> u64 {
+    let seed = std::env::var("TWIN_SEED").ok().and_then(|text| text.parse().ok()).unwrap_or(20_070_627);
+    println!("seed {seed} (set TWIN_SEED for another)");
+    seed
+}

@@ -1,0 +1,13 @@
+//! The tests of the reader, as one program.
+
+mod cases;
+mod common;
+mod descriptors;
+mod header_text;
+mod listing;
+mod random;
+mod records;
+mod rule_by_rule;
+mod sets;
+mod sph_lines;
+mod states;
