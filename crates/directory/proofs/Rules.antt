@@ -3,7 +3,7 @@
 use Prim.Native.Nat.{ℕ, zero, suc, _+_, _*_, _-_, _≤_, _<_}
 use mathlib.Core.Bool.{Bool, true, false, cond, _&&_, _||_, not, and-false}
 use mathlib.Core.List.{List, [], _∷_, map}
-use mathlib.Core.Logic.{_⊎_, inl, inr}
+use mathlib.Core.Logic.{_⊎_, inl, inr, ⊎-elim}
 use mathlib.Core.Path.{_≡_, refl, sym, ap, _∙_}
 use native.Mathlib.Omega.{arith}
 use lib.Dec.{T, ltb, eqb, eqb→eq}
@@ -24,6 +24,7 @@ use Rattle.layout.specs.Rules.{linesOf, rule7At, rule7, rule8At, rule8, rule9At
 use Rattle.layout.proofs.Laws.{need-accepts, orElse-accepts, orElse-assoc, first-accepts-0, laidOut-fits}
 use Rattle.layout.proofs.Starts.{dsd-length, spare-length}
 use Rattle.layout.proofs.Sound.{length-directory, at-directory}
+use Rattle.layout.proofs.Types.{laidOut-typed}
 use Rattle.text.specs.Numbers.{numberIn}
 use Rattle.text.specs.declared.Number.{Number as HeldNumber}
 use Rattle.sets.specs.Sets.{Held}
@@ -81,43 +82,12 @@ module _ (b : List ℕ) (dsds n : ℕ) (placed : Dsds b dsds n) where
 
 -- ---- only entries with a set have a size
 
--- a part of bytes that are all blank
-blank-part : (d : List ℕ) (at w : ℕ) → at + w ≤ length d → ((k : ℕ) → k < at + w → getD d k 0 ≡ 32) → part d at w ≡ replicate w 32
-unfolding part
-blank-part d at w h all =
-    let e : length (take w (drop at d)) ≡ w = length-take-le w (drop at d) (omega (arith, length-drop at d)) in
-    ext-getD 0 (take w (drop at d)) (replicate w 32) (e ∙ sym (length-replicate w 32))
-    (λ k l. let m : k < w = omega arith in getD-take w (drop at d) k 0 m ∙ getD-drop at d k 0 ∙ all (at + k) (omega arith) ∙ sym (getD-replicate w k 32 0 m))
-
-spare-class : (k : ℕ) → k < 279 → getD (layout spareDsd) k plain ≡ exactly 32
-unfolding layout spareDsd lineClasses
-spare-class k h =
-    List·getD-append (replicate 279 (exactly 32)) (exactly 10 ∷ []) plain k (omega (arith, length-replicate 279 (exactly 32))) ∙ getD-replicate 279 k (exactly 32) plain h
-
 -- of type M, A, G or R, or without a size, as a spare is
 abbrev Sized : Entry → Type 0
 Sized e = T (member (e .type) (bytes "MAGR")) ⊎ (e .size .magnitude ≡ 0)
 
-module _ (d : List ℕ) where
-  spare-sized : ((k : ℕ) → k < 279 → getD d k 0 ≡ 32) → 280 ≤ length d → Sized (entryOf d)
-  unfolding entryOf valueOf placeOf widthOf dsd lineClasses valueClasses quoteWidth valueWidth numberOf digits
-  spare-sized all h = inr (rw (blank-part d 170 21 (omega arith) (λ k l. all k (omega arith))))
-
-  named-sized : T (fits (getD (layout dsd) 47 plain) (getD d 47 0)) → 280 ≤ length d → Sized (entryOf d)
-  unfolding entryOf valueOf placeOf widthOf dsd lineClasses valueClasses quoteWidth valueWidth byteAt part layout fits
-  named-sized h l = inl (rw (getD-take 1 (drop 47 d) 0 0 (omega arith), getD-drop 47 d 0 0) h)
-
-  laidOut-sized : (n e p : ℕ) → laidOut n e p (layout (linesOf d)) d ≡ accepted → Sized (entryOf d)
-  unfolding linesOf fits
-  laidOut-sized n e p h = go (eqb (byteAt d 0) 32) h
-    where
-      go : (t : Bool) → laidOut n e p (layout (cond t spareDsd dsd)) d ≡ accepted → Sized (entryOf d)
-      go true h =
-          let r = laidOut-fits plain n e (layout spareDsd) d p h in
-          spare-sized (λ k l. eqb→eq (getD d k 0) 32 (rw (spare-class k l) at (r .1 k (omega (arith, spare-length))))) (omega (arith, r .0, spare-length))
-      go false h =
-          let r = laidOut-fits plain n e (layout dsd) d p h in
-          named-sized (r .1 47 (omega (arith, dsd-length))) (omega (arith, r .0, dsd-length))
+laidOut-sized : (d : List ℕ) (n e p : ℕ) → laidOut n e p (layout (linesOf d)) d ≡ accepted → Sized (entryOf d)
+laidOut-sized d n e p h = ⊎-elim inl (λ s. inr (s .1 .1)) (laidOut-typed d n e p h)
 
 module _ (e : Entry) (fit : numbersFit e ≡ true) where
   -- a set's size is not negative

@@ -88,7 +88,7 @@ not-above (pos zero) l h = refl
 not-above (pos (suc n)) l h = absurd (subst (λ (t : Bool). T t) h (lt→ltb 0 (suc n) (omega arith)))
 not-above (negsuc n) l h = absurd (l .le)
 
-last-of-four : (t u v w : Bool) → T (t || (u || (v || (w || false)))) → (t || (u || (v || false))) ≡ false → T w
+pub last-of-four : (t u v w : Bool) → T (t || (u || (v || (w || false)))) → (t || (u || (v || false))) ≡ false → T w
 last-of-four true u v w h e = absurd (subst (λ (t : Bool). T t) e tt)
 last-of-four false true v w h e = absurd (subst (λ (t : Bool). T t) e tt)
 last-of-four false false true w h e = absurd (subst (λ (t : Bool). T t) e tt)
@@ -109,7 +109,7 @@ module _ (e : Entry) (fit : NumbersFit e) (typed : Typed e) (empty : nonEmpty e 
   no-count = go typed (isData e) refl
     where
       go : Typed e → (d : Bool) → isData e ≡ d → e .count .magnitude ≡ 0
-      go (inr s) d x = s .1
+      go (inr s) d x = s .1 .0
       go (inl m) true x =
           let d : T (isData e) = rw x tt in
           no-magnitude (e .count) (fit .1 d .1 .0 (not-above (whole (e .size)) (fit .1 d .0 .1 .0) (rw x at empty)))

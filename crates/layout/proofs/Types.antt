@@ -32,9 +32,9 @@ unfolding layout spareDsd lineClasses
 spare-class k h =
     List·getD-append (replicate 279 (exactly 32)) (exactly 10 ∷ []) plain k (omega (arith, length-replicate 279 (exactly 32))) ∙ getD-replicate 279 k (exactly 32) plain h
 
--- a type M, A, G or R; or a spare
+-- a type M, A, G or R; or a spare, which has no record and no byte
 abbrev pub Typed : Entry → Type 0
-Typed e = T (member (e .type) (bytes "MAGR")) ⊎ ((e .type ≡ 32) × (e .count .magnitude ≡ 0))
+Typed e = T (member (e .type) (bytes "MAGR")) ⊎ ((e .type ≡ 32) × ((e .count .magnitude ≡ 0) × (e .size .magnitude ≡ 0)))
 
 module _ (d : List ℕ) where
   -- a spare as laid out
@@ -47,8 +47,11 @@ module _ (d : List ℕ) where
   spare-count all h = rw (blank-part d 207 11 (omega arith) (λ k l. all k (omega arith)))
 
   spare-typed : ((k : ℕ) → k < 279 → getD d k 0 ≡ 32) → 280 ≤ length d → Typed (entryOf d)
-  unfolding entryOf valueOf placeOf widthOf dsd lineClasses valueClasses quoteWidth valueWidth byteAt
-  spare-typed all h = inr (rw (blank-part d 47 1 (omega arith) (λ k l. all k (omega arith))), spare-count all h)
+  unfolding entryOf valueOf placeOf widthOf dsd lineClasses valueClasses quoteWidth valueWidth byteAt numberOf digits
+  spare-typed all h = inr (
+    rw (blank-part d 47 1 (omega arith) (λ k l. all k (omega arith))),
+    (spare-count all h, rw (blank-part d 170 21 (omega arith) (λ k l. all k (omega arith)))),
+  )
 
   named-typed : T (fits (getD (layout dsd) 47 plain) (getD d 47 0)) → 280 ≤ length d → Typed (entryOf d)
   unfolding entryOf valueOf placeOf widthOf dsd lineClasses valueClasses quoteWidth valueWidth byteAt part layout fits

@@ -23,7 +23,7 @@ use Rattle.layout.specs.Listing.{decimal, signedDecimal, trimmed, lineOf, entry
 use Rattle.layout.specs.Answers.{padded, typeOf, nameOf, countOf, recordSizeOf, directoryOf, directoryFor, noDirectory}
 use Rattle.layout.proofs.Types.{Typed}
 use Rattle.layout.proofs.Faults.{NumbersFit}
-use Rattle.layout.proofs.Sound.{Sound, sound, length-directory, at-directory}
+use Rattle.layout.proofs.Sound.{Sound, sound, length-directory, at-directory, last-of-four}
 use Rattle.lister.specs.declared.Listed.{Listed}
 use Rattle.lister.specs.Lines.{listedOf, nameAt, valueWords, entryText, entryTextAt, entryTexts, acceptedText, refusalText, listingOf, longerText}
 use Rattle.lister.proofs.Held.{held-at, map-at, text-at}
@@ -43,13 +43,6 @@ is-zero : (n : Number) → whole n ≡ pos 0 → decimal (n .magnitude) ≡ sign
 is-zero n h = not-below n (subst (λ (z : ℤ). pos 0 ≤ℤ z) (sym h) (record { le = tt }))
 
 -- an entry that is no spare is data, or all its numbers are zero
-last-of-four : (t u v w : Bool) → T (t || (u || (v || (w || false)))) → (t || (u || (v || false))) ≡ false → T w
-last-of-four true u v w h e = absurd (subst (λ (t : Bool). T t) e tt)
-last-of-four false true v w h e = absurd (subst (λ (t : Bool). T t) e tt)
-last-of-four false false true w h e = absurd (subst (λ (t : Bool). T t) e tt)
-last-of-four false false false true h e = tt
-last-of-four false false false false h e = absurd h
-
 abbrev Unsigned : Entry → Type 0
 Unsigned e =
     (decimal (start e) ≡ signedDecimal (whole (e .offset)))

@@ -230,22 +230,7 @@ module _ (b : List ℕ) (start n kind i before j : ℕ) (f : Found) (so : f ≡ 
   unfolding variableLengths foundBehind
   record-nowhere h = sym (so ∙ rw (rest-end b start n i h, le-ltb j 0 (omega arith)))
 
--- ---- for callers: the tally's sums by the lengths of a set's records, and sums that the cap leaves as they are
-
-records-sum : (n size : ℕ) (ns : List ℕ) → sum (replicate n size ++ ns) ≡ n * size + sum ns
-unfolding sum
-records-sum zero size ns = rw (zero-mul size, zero-add)
-records-sum (suc n) size ns = rw (records-sum n size ns, suc-mul n size) (omega arith)
-
-pub counts-are : (ss : List State) (kind : ℕ) → countOf ss kind ≡ length (variableLengths ss kind)
-unfolding countOf variableLengths stateLengths sum
-counts-are [] kind = refl
-counts-are (s ∷ ss) kind = rw (records-length (s .recordLength) (variableLengths ss kind) (stateCount kind s), counts-are ss kind)
-
-pub totals-are : (ss : List State) (kind : ℕ) → totalOf ss kind ≡ sum (variableLengths ss kind)
-unfolding totalOf variableLengths stateLengths stateBytes sum
-totals-are [] kind = refl
-totals-are (s ∷ ss) kind = rw (records-sum (stateCount kind s) (s .recordLength) (variableLengths ss kind), totals-are ss kind)
+-- ---- for callers: sums that the cap leaves as they are
 
 pub ofKind-capped : (l : List ℕ) (kind : ℕ) → ofKind (map capped l) kind ≡ capped (ofKind l kind)
 unfolding ofKind
