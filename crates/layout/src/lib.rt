@@ -137,6 +137,85 @@ pub struct MainHeader {
     pub sizes: Sizes,
 }
 
+impl Identity {
+    fn none() -> Identity
+        ensures { λ r. ⌜ r ≡ noHeader .identity ⌝ }
+    {
+        Identity {
+            product: [0; 62],
+            proc_stage: 0,
+            ref_doc: [0; 23],
+            acquisition_station: [0; 20],
+            proc_center: [0; 6],
+            proc_time: [0; 27],
+            software_ver: [0; 14],
+        }
+    }
+}
+
+impl Sensing {
+    fn none() -> Sensing
+        ensures { λ r. ⌜ r ≡ noHeader .sensing ⌝ }
+    {
+        Sensing {
+            sensing_start: [0; 27],
+            sensing_stop: [0; 27],
+            phase: 0,
+            cycle: 0,
+            rel_orbit: 0,
+            abs_orbit: 0,
+        }
+    }
+}
+
+impl Orbit {
+    fn none() -> Orbit
+        ensures { λ r. ⌜ r ≡ noHeader .orbit ⌝ }
+    {
+        Orbit {
+            state_vector_time: [0; 27],
+            delta_ut1: 0,
+            x_position: 0,
+            y_position: 0,
+            z_position: 0,
+            x_velocity: 0,
+            y_velocity: 0,
+            z_velocity: 0,
+            vector_source: [0; 2],
+        }
+    }
+}
+
+impl Clock {
+    fn none() -> Clock
+        ensures { λ r. ⌜ r ≡ noHeader .clock ⌝ }
+    {
+        Clock {
+            utc_sbt_time: [0; 27],
+            sat_binary_time: 0,
+            clock_step: 0,
+            leap_utc: [0; 27],
+            leap_sign: 0,
+            leap_err: 0,
+        }
+    }
+}
+
+impl Sizes {
+    fn none() -> Sizes
+        ensures { λ r. ⌜ r ≡ noHeader .sizes ⌝ }
+    {
+        Sizes {
+            product_err: 0,
+            tot_size: 0,
+            sph_size: 0,
+            num_dsd: 0,
+            dsd_size: 0,
+            num_data_sets: 0,
+        }
+    }
+}
+
 impl MainHeader {
     pub const SIZE: usize = 1247;
 
@@ -145,50 +224,11 @@ impl MainHeader {
         ensures { λ r. ⌜ r ≡ noHeader ⌝ }
     {
         MainHeader {
-            identity: Identity {
-                product: [0; 62],
-                proc_stage: 0,
-                ref_doc: [0; 23],
-                acquisition_station: [0; 20],
-                proc_center: [0; 6],
-                proc_time: [0; 27],
-                software_ver: [0; 14],
-            },
-            sensing: Sensing {
-                sensing_start: [0; 27],
-                sensing_stop: [0; 27],
-                phase: 0,
-                cycle: 0,
-                rel_orbit: 0,
-                abs_orbit: 0,
-            },
-            orbit: Orbit {
-                state_vector_time: [0; 27],
-                delta_ut1: 0,
-                x_position: 0,
-                y_position: 0,
-                z_position: 0,
-                x_velocity: 0,
-                y_velocity: 0,
-                z_velocity: 0,
-                vector_source: [0; 2],
-            },
-            clock: Clock {
-                utc_sbt_time: [0; 27],
-                sat_binary_time: 0,
-                clock_step: 0,
-                leap_utc: [0; 27],
-                leap_sign: 0,
-                leap_err: 0,
-            },
-            sizes: Sizes {
-                product_err: 0,
-                tot_size: 0,
-                sph_size: 0,
-                num_dsd: 0,
-                dsd_size: 0,
-                num_data_sets: 0,
-            },
+            identity: Identity::none(),
+            sensing: Sensing::none(),
+            orbit: Orbit::none(),
+            clock: Clock::none(),
+            sizes: Sizes::none(),
         }
     }
 }
