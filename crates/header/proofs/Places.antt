@@ -6,7 +6,7 @@ use mathlib.Core.Path.{_≡_, refl, ap}
 use Rattle.layout.specs.Bytes.{part}
 use Rattle.layout.specs.Text.{Number, numberOf, valueOf, placeOf, widthOf, lineClasses, valueClasses, quoteWidth, valueWidth}
 use Rattle.layout.specs.Lines.{mph}
-use Rattle.layout.specs.Entries.{headerNumber, totSize, sphSize, numDsd, dsdSize, numDataSets, headersEnd, entries}
+use Rattle.layout.specs.Entries.{headerNumber, totSize, sphSize, numDsd, dsdSize, headersEnd, entries}
 
 module _ (b : List ℕ) where
   pub total-at : totSize b ≡ numberOf (part b 1075 21)
@@ -24,10 +24,6 @@ module _ (b : List ℕ) where
   pub dsd-size-at : dsdSize b ≡ numberOf (part b 1161 11)
   unfolding dsdSize headerNumber valueOf placeOf widthOf mph lineClasses valueClasses quoteWidth valueWidth
   dsd-size-at = refl
-
-  pub data-sets-at : numDataSets b ≡ numberOf (part b 1194 11)
-  unfolding numDataSets headerNumber valueOf placeOf widthOf mph lineClasses valueClasses quoteWidth valueWidth
-  data-sets-at = refl
 
   pub headers-end-at : headersEnd b ≡ 1247 + numberOf (part b 1113 11) .magnitude
   unfolding headersEnd

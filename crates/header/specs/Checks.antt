@@ -4,11 +4,9 @@ use Prim.Native.Nat.{ℕ, _+_, _*_, _≤_, _<_}
 use mathlib.Core.List.{List, []}
 use mathlib.Core.Path.{_≡_}
 use Rattle.layout.specs.Answer.{Answer, accepted, _orElse_}
-use Rattle.layout.specs.Entries.{headersEnd, entries, numDataSets}
+use Rattle.layout.specs.Entries.{headersEnd, entries}
 use Rattle.layout.specs.Rules.{rule1, rule2, rule3, rule4, rule5, rule6}
 use Rattle.layout.specs.Answers.{verdictIs}
-use Rattle.text.specs.Numbers.{numberIn}
-use Rattle.text.specs.declared.Number.{Number}
 use Rattle.header.specs.declared.HeaderCheck.{HeaderCheck}
 
 -- rules 1 and 2 look at no byte
@@ -20,13 +18,6 @@ totalRules b n = rule4 b n orElse rule5 b n
 
 unfoldable pub rules1to6 : List ℕ → ℕ → Answer
 rules1to6 b n = rule1 b n orElse rule2 b n orElse rule3 b n orElse rule4 b n orElse rule5 b n orElse rule6 b n
-
--- NUM_DATA_SETS as the code holds it is the true one
-pub record DataSets (b : List ℕ) (r : Number) : Type 0 where
-  pub number : r ≡ numberIn b 1194 11
-  pub minus : r .minus ≡ numDataSets b .minus
-  pub magnitude : r .magnitude ≡ numDataSets b .magnitude
-  pub fits : r .magnitude < 9223372036854775808
 
 -- where the headers end and how many directory entries there are: inside the product, with room for the DSDs
 pub record HeadersFit (b : List ℕ) (n : ℕ) (r : HeaderCheck) : Type 0 where

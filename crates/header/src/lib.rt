@@ -11,7 +11,7 @@ ghost use Rattle.layout.specs.Search.{laidOut};
 ghost use Rattle.layout.specs.Entries.{totSize, withinZ};
 ghost use Rattle.layout.specs.Rules.{sphFits, dsdsFit, rule6};
 ghost use Rattle.layout.specs.Answers.{headerOf, verdictIs};
-ghost use Rattle.header.specs.Checks.{lengthRules, totalRules, rules1to6, DataSets, HeaderChecked};
+ghost use Rattle.header.specs.Checks.{lengthRules, totalRules, rules1to6, HeaderChecked};
 
 // The bytes from `at` on fill `d`.
 fn fill(p: &[u8], at: usize, d: &mut [u8])
@@ -185,14 +185,6 @@ pub fn read_header(p: &[u8]) -> layout::MainHeader
         clock: read_clock(p),
         sizes: read_sizes(p),
     }
-}
-
-// NUM_DATA_SETS, for rule 11.
-pub fn data_sets(p: &[u8]) -> text::Number
-    requires { ⌜ 1247 ≤ length (now p) ⌝ }
-    ensures { λ r. ⌜ DataSets (now (p .entry)) r ⌝ }
-{
-    text::number_at(p, 1194, 11)
 }
 
 // A refusal that is of no entry.
