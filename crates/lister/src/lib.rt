@@ -1,17 +1,19 @@
 // The listing (document 01, "The listing"): every byte that the listing program writes, from a verdict, a length and a directory.
-// A writer puts a text into `out` from the place `at` on, and answers the place behind it.
 use layout::Directory;
 use layout::Refusal;
 use layout::Verdict;
+use writing::put_byte;
+use writing::put_number;
+use writing::put_signed;
+use writing::put_text;
 ghost use mathlib.Core.Path.{_≡_};
 ghost use mathlib.Core.List.{_∷_, _++_, []};
 ghost use Prim.Native.Nat.{ℕ, _+_, _*_, _≤_, _<_};
-ghost use lib.IntN.{natAbs};
 ghost use lib.ListN.{length};
 ghost use Rattle.layout.specs.Bytes.{part};
 ghost use Rattle.layout.specs.Listing.{decimal, signedDecimal, trimmed, lineOf, listing};
 ghost use Rattle.layout.specs.Answers.{verdictIs};
-ghost use Rattle.lister.specs.Put.{Put, Written};
+ghost use Rattle.writing.specs.Put.{Put, Written};
 ghost use Rattle.lister.specs.Lines.{nameAt, valueWords, entryText, entryTexts, refusalText, acceptedText, listingOf, longerText};
 
 // The room that any listing fits: 128 lines of at most 143 bytes, and two more.
@@ -25,69 +27,6 @@ pub struct Listed {
     pub size: u64,
     pub count: u64,
     pub record_size: i64,
-}
-
-fn put_byte(out: &mut [u8], at: usize, byte: u8) -> usize
-    requires { ⌜ at + 1 ≤ length (now out) ⌝ }
-    ensures { λ r. ⌜ Put 1 (byte ∷ []) (now (out .entry)) (now (out .exit)) at r ⌝ }
-{
-    out[at] = byte;
-    at + 1
-}
-
-fn put_text(out: &mut [u8], at: usize, text: &[u8]) -> usize
-    requires { ⌜ at + length (now text) ≤ length (now out) ⌝ }
-    ensures { λ r. ⌜ Put (length (now (text .entry))) (now (text .entry)) (now (out .entry)) (now (out .exit)) at r ⌝ }
-{
-    let mut i = 0;
-    while i < text.len() {
-        out[at + i] = text[i];
-        i += 1;
-    }
-    at + text.len()
-}
-
-// Digits, the leading ones first: at most 20 deep.
-fn put_digits(out: &mut [u8], at: usize, number: u64) -> usize
-    requires { ⌜ at + length (decimal number) ≤ length (now out) ⌝ }
-    ensures { λ r. ⌜ Put 20 (decimal number) (now (out .entry)) (now (out .exit)) at r ⌝ }
-{
-    if number < 10 {
-        return put_byte(out, at, (48 + number) as u8);
-    }
-    let next = put_digits(out, at, number / 10);
-    put_byte(out, next, (48 + number % 10) as u8)
-}
-
-// A number, and the byte behind it.
-fn put_number(out: &mut [u8], at: usize, number: u64, end: u8) -> usize
-    requires { ⌜ at + 21 ≤ length (now out) ⌝ }
-    ensures { λ r. ⌜ Put 21 (decimal number ++ end ∷ []) (now (out .entry)) (now (out .exit)) at r ⌝ }
-{
-    let next = put_digits(out, at, number);
-    put_byte(out, next, end)
-}
-
-// The magnitude of a number, taken so that the lowest number's fits too.
-fn magnitude(number: i64) -> u64
-    ensures { λ r. ⌜ r ≡ natAbs number ⌝ }
-{
-    if number < 0 {
-        return (-1 - number) as u64 + 1;
-    }
-    number as u64
-}
-
-// A number with its sign where it is negative, and the byte behind it.
-fn put_signed(out: &mut [u8], at: usize, number: i64, end: u8) -> usize
-    requires { ⌜ at + 22 ≤ length (now out) ⌝ }
-    ensures { λ r. ⌜ Put 22 (signedDecimal number ++ end ∷ []) (now (out .entry)) (now (out .exit)) at r ⌝ }
-{
-    if number < 0 {
-        let next = put_byte(out, at, b'-');
-        return put_number(out, next, magnitude(number), end);
-    }
-    put_number(out, at, magnitude(number), end)
 }
 
 // How many bytes of the name that starts here come before its trailing blanks.

@@ -1,7 +1,7 @@
 -- `lister::put_accepted` meets its contract: the four puts make the listing.
 -- Assumes nothing.
 use borrow.Author.Needs.{needs}
-use Rattle.lister.proofs.Puts.{then, spelled}
+use Rattle.writing.proofs.Puts.{then, spelled}
 use Rattle.lister.proofs.Lines.{accepted-lines}
 use Rattle.lister.proofs.put_accepted.Statement.{statement}
 use Rattle.lister.proofs.put_accepted.Tie as tie

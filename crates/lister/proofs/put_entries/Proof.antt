@@ -9,9 +9,9 @@ use lib.Seq.{length-sets}
 use mir.Syntax.{w64}
 use mir.Val.{toZ, ofZ}
 use mir.Facts.{toZ-ofZ}
-use Rattle.lister.specs.Put.{Put}
+use Rattle.writing.specs.Put.{Put}
 use Rattle.lister.specs.Lines.{entryTexts}
-use Rattle.lister.proofs.Puts.{then, at-most, spelled, nothing}
+use Rattle.writing.proofs.Puts.{then, at-most, spelled, nothing}
 use Rattle.lister.proofs.Lines.{texts-none, texts-more, read-line}
 use Rattle.lister.proofs.put_entries.Statement.{statement}
 use Rattle.lister.proofs.put_entries.Tie as tie

@@ -2,7 +2,7 @@
 -- Assumes nothing.
 use native.Mathlib.Omega.{arith}
 use borrow.Author.Needs.{needs}
-use Rattle.lister.proofs.Puts.{then, at-most, spelled}
+use Rattle.writing.proofs.Puts.{then, at-most, spelled}
 use Rattle.lister.proofs.Lines.{spare-line, named-line}
 use Rattle.lister.proofs.put_entry.Statement.{statement}
 use Rattle.lister.proofs.put_entry.Tie as tie

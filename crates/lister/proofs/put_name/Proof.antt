@@ -2,7 +2,7 @@
 -- Assumes nothing.
 use borrow.Author.Needs.{needs}
 use Rattle.lister.proofs.Names.{name-lent, name-short}
-use Rattle.lister.proofs.Puts.{then, at-most, spelled}
+use Rattle.writing.proofs.Puts.{then, at-most, spelled}
 use Rattle.lister.proofs.put_name.Statement.{statement}
 use Rattle.lister.proofs.put_name.Tie as tie
 

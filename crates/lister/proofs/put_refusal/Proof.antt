@@ -1,7 +1,7 @@
 -- `lister::put_refusal` meets its contract: the four puts make the line.
 -- Assumes nothing.
 use borrow.Author.Needs.{needs}
-use Rattle.lister.proofs.Puts.{then, spelled}
+use Rattle.writing.proofs.Puts.{then, spelled}
 use Rattle.lister.proofs.Lines.{refusal-line}
 use Rattle.lister.proofs.put_refusal.Statement.{statement}
 use Rattle.lister.proofs.put_refusal.Tie as tie

@@ -5,7 +5,7 @@ use borrow.Author.Needs.{needs}
 use mir.Syntax.{w64}
 use mir.Val.{toZ, ofZ}
 use mir.Facts.{toZ-ofZ}
-use Rattle.lister.proofs.Puts.{then, spelled}
+use Rattle.writing.proofs.Puts.{then, spelled}
 use Rattle.lister.proofs.Lines.{values-line}
 use Rattle.lister.proofs.put_values.Statement.{statement}
 use Rattle.lister.proofs.put_values.Tie as tie

@@ -2,7 +2,7 @@
 -- Assumes nothing.
 use native.Mathlib.Omega.{arith}
 use borrow.Author.Needs.{needs}
-use Rattle.lister.proofs.Puts.{from-start, spelled}
+use Rattle.writing.proofs.Puts.{from-start, spelled}
 use Rattle.lister.proofs.Lines.{listing-accepted, listing-refused}
 use Rattle.lister.proofs.write_listing.Statement.{statement}
 use Rattle.lister.proofs.write_listing.Tie as tie

@@ -4,7 +4,7 @@ use native.Mathlib.Omega.{arith}
 use borrow.Author.Needs.{needs}
 use Rattle.layout.specs.Listing.{lineOf}
 use Rattle.lister.specs.Lines.{longerText}
-use Rattle.lister.proofs.Puts.{from-start}
+use Rattle.writing.proofs.Puts.{from-start}
 use Rattle.lister.proofs.write_longer.Statement.{statement}
 use Rattle.lister.proofs.write_longer.Tie as tie
 

@@ -1,4 +1,4 @@
--- `lister::put_signed` meets its contract: a minus and the magnitude, or the magnitude alone.
+-- `writing::put_signed` meets its contract: a minus and the magnitude, or the magnitude alone.
 -- Assumes nothing.
 use mathlib.Core.Path.{_∙_, ap}
 use native.Mathlib.Omega.{arith}
@@ -6,10 +6,10 @@ use lib.IntN.{natAbs}
 use lib.ListN.{length}
 use borrow.Author.Needs.{needs}
 use mir.Facts.{toZ-ofZ}
-use Rattle.lister.proofs.Puts.{then, at-most, spelled}
-use Rattle.lister.proofs.Signs.{negative, not-negative, minus, no-minus}
-use Rattle.lister.proofs.put_signed.Statement.{statement}
-use Rattle.lister.proofs.put_signed.Tie as tie
+use Rattle.writing.proofs.Puts.{then, at-most, spelled}
+use Rattle.writing.proofs.Signs.{negative, not-negative, minus, no-minus}
+use Rattle.writing.proofs.put_signed.Statement.{statement}
+use Rattle.writing.proofs.put_signed.Tie as tie
 
 put-byte-requires : tie.Need-put-byte-requires
 put-byte-requires c κs = search needs

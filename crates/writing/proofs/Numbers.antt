@@ -12,8 +12,8 @@ use lib.Seq.{append-snoc}
 use borrow.Author.Tests.{lt-ltb, le-ltb, ltb-false}
 use Rattle.layout.specs.Listing.{digitsBefore, decimal}
 use Rattle.layout.proofs.Laws.{lt-or-le}
-use Rattle.lister.specs.Put.{Put}
-use Rattle.lister.proofs.Puts.{then, at-most}
+use Rattle.writing.specs.Put.{Put}
+use Rattle.writing.proofs.Puts.{then, at-most}
 
 -- enough turns all give the same digits, and those before what follows
 enough : (t u n : ℕ) (rest : List ℕ) → n ≤ t → n ≤ u → digitsBefore t n rest ≡ digitsBefore u n [] ++ rest

@@ -1,13 +1,13 @@
--- `lister::magnitude` meets its contract: of a negative number, one below minus it fits, and one more is the magnitude.
+-- `writing::magnitude` meets its contract: of a negative number, one below minus it fits, and one more is the magnitude.
 -- Assumes nothing.
 use mathlib.Core.Path.{sym, ap}
 use native.Mathlib.Omega.{arith}
 use lib.Signed.{yes-nonNeg, natAbs-le}
 use lib.IntN.{natAbs}
 use mir.Facts.{toZ-ofZ}
-use Rattle.lister.proofs.Signs.{negative, not-negative, below-zero, flipped-fits, flipped-back}
-use Rattle.lister.proofs.magnitude.Statement.{statement}
-use Rattle.lister.proofs.magnitude.Tie as tie
+use Rattle.writing.proofs.Signs.{negative, not-negative, below-zero, flipped-fits, flipped-back}
+use Rattle.writing.proofs.magnitude.Statement.{statement}
+use Rattle.writing.proofs.magnitude.Tie as tie
 
 sub-result : tie.Need-sub-result
 sub-result c = flipped-fits (c .before .args .number) (c .before .fits .number) (negative (c .before .args .number) (c .before .fits .number) (c .if1 .taken))

@@ -1,4 +1,4 @@
--- `lister::put_digits` meets its contract. The measure is the number, which falls to its tenth: the digits of that are put first, then the last one.
+-- `writing::put_digits` meets its contract. The measure is the number, which falls to its tenth: the digits of that are put first, then the last one.
 -- Assumes nothing.
 use Prim.Native.Nat.{_+_, _/_, _%_, ℕ, _<_}
 use mathlib.Core.Path.{_∙_, ap}
@@ -8,13 +8,13 @@ use lib.ListN.{length, length-append}
 use borrow.Fn.Kinds.{In}
 use borrow.Fn.PlainCycle.{Measures, is, falls, and}
 use Rattle.layout.specs.Listing.{decimal}
-use Rattle.lister.proofs.Numbers.{one-digit, last-digit, put-one-digit, put-last-digit}
-use Rattle.lister.proofs.+put_digits.{statement}
-use Rattle.lister.proofs.+put_digits.Tie.{close}
-use Rattle.lister.proofs.put_digits.Reads as put-digits
-use Rattle.lister.proofs.put_digits.Kinds as put-digits-kinds
-use Rattle.lister.proofs.+put_digits.Lts-put_digits as put-digits-lts
-use Rattle.lister.proofs.put_byte.Reads as put-byte-reads
+use Rattle.writing.proofs.Numbers.{one-digit, last-digit, put-one-digit, put-last-digit}
+use Rattle.writing.proofs.+put_digits.{statement}
+use Rattle.writing.proofs.+put_digits.Tie.{close}
+use Rattle.writing.proofs.put_digits.Reads as put-digits
+use Rattle.writing.proofs.put_digits.Kinds as put-digits-kinds
+use Rattle.writing.proofs.+put_digits.Lts-put_digits as put-digits-lts
+use Rattle.writing.proofs.put_byte.Reads as put-byte-reads
 
 abbrev μ-put-digits : Measures 1 put-digits-kinds.ps ℕ
 μ-put-digits κs a = a .1 .1 .0

@@ -1,4 +1,4 @@
--- `lister::put_text` meets its contract. The loop's invariant: the first `i` bytes of the text are stored.
+-- `writing::put_text` meets its contract. The loop's invariant: the first `i` bytes of the text are stored.
 -- Assumes nothing.
 use Prim.Native.Nat.{_+_, _-_, _≤_}
 use mathlib.Core.Path.{_≡_, refl, _∙_}
@@ -6,9 +6,9 @@ use native.Mathlib.Omega.{arith}
 use native.Mathlib.Numerals.{add-one}
 use lib.ListN.{length, take}
 use lib.Seq.{sets, length-sets, take-all}
-use Rattle.lister.proofs.Puts.{one-more}
-use Rattle.lister.proofs.put_text.Statement.{statement}
-use Rattle.lister.proofs.put_text.Tie as tie
+use Rattle.writing.proofs.Puts.{one-more}
+use Rattle.writing.proofs.put_text.Statement.{statement}
+use Rattle.writing.proofs.put_text.Tie as tie
 
 abbrev Inv-loop : tie.InvT-loop
 Inv-loop out₀ at text i₀ out i = (i ≤ length text) × (out ≡ sets out₀ at (take i text))
@@ -39,7 +39,7 @@ loop-again c =
     let i = c .before .before .loop .i in
     let text = c .before .before .before .args .text .now in
     let more : i + 1 ≤ length text = omega arith in
-    (more, rw (c .before .before .loop .inv .1, one-more _ text _ i (omega arith), add-one i))
+    (more, rw (c .before .before .loop .inv .1, one-more _ text _ i 0 (omega arith), add-one i))
 
 add-result : tie.Need-add-result Inv-loop μ-loop
 add-result c = omega arith

@@ -1,11 +1,11 @@
--- `lister::put_number` meets its contract: a number below 2^64 has at most 20 digits.
+-- `writing::put_number` meets its contract: a number below 2^64 has at most 20 digits.
 -- Assumes nothing.
 use native.Mathlib.Omega.{arith}
 use borrow.Author.Needs.{needs}
-use Rattle.lister.proofs.Puts.{then}
-use Rattle.lister.proofs.Numbers.{digits-64}
-use Rattle.lister.proofs.put_number.Statement.{statement}
-use Rattle.lister.proofs.put_number.Tie as tie
+use Rattle.writing.proofs.Puts.{then}
+use Rattle.writing.proofs.Numbers.{digits-64}
+use Rattle.writing.proofs.put_number.Statement.{statement}
+use Rattle.writing.proofs.put_number.Tie as tie
 
 put-digits-requires : tie.Need-put-digits-requires
 put-digits-requires c κs = omega (arith, digits-64 (c .before .before .args .number) (c .before .before .fits .number .fits))

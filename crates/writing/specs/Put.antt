@@ -7,13 +7,13 @@ use lib.ListN.{length, take, drop}
 use lib.Seq.{sets}
 
 -- the text, of at most `width` bytes, stored from the place `at` on; `r` is the place behind it
-pub record Put (width : ℕ) (text old new : List ℕ) (at r : ℕ) : Type 0 where
+pub record Put {A : Type 0} (width : ℕ) (text old new : List A) (at r : ℕ) : Type 0 where
   pub next : r ≡ at + length text
   pub written : new ≡ sets old at text
   pub narrow : length text ≤ width
 
 -- the text fills the first `r` bytes, of which there are at most `width`, and those behind them are as they were
-pub record Written (width : ℕ) (text old new : List ℕ) (r : ℕ) : Type 0 where
+pub record Written {A : Type 0} (width : ℕ) (text old new : List A) (r : ℕ) : Type 0 where
   pub count : r ≡ length text
   pub first : take r new ≡ text
   pub behind : drop r new ≡ drop r old
