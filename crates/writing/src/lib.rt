@@ -49,7 +49,7 @@ pub fn put_number(out: &mut [u8], at: usize, number: u64, end: u8) -> usize
 }
 
 // The magnitude of a number, taken so that the lowest number's fits too.
-fn magnitude(number: i64) -> u64
+pub fn magnitude(number: i64) -> u64
     ensures { λ r. ⌜ r ≡ natAbs number ⌝ }
 {
     if number < 0 {

@@ -1,0 +1,52 @@
+-- `words::put_field` meets its contract, by the cases of the answer.
+-- Assumes nothing.
+use Rattle.writing.proofs.Puts.{then, spelled}
+use Rattle.words.proofs.Laws.{field-words, no-field-words}
+use borrow.Author.Needs.{needs}
+use Rattle.words.proofs.put_field.Statement.{statement}
+use Rattle.words.proofs.put_field.Tie as tie
+
+enum-known-answer : tie.Need-enum-known-answer
+enum-known-answer c = search needs
+
+put-refusal-requires : tie.Need-put-refusal-requires
+put-refusal-requires c κs = search needs
+
+slice-aggregate-put-words : tie.Need-slice-aggregate-put-words
+slice-aggregate-put-words c = search needs
+
+put-words-requires : tie.Need-put-words-requires
+put-words-requires c κs = search needs
+
+enum-known-answer-2 : tie.Need-enum-known-answer-2
+enum-known-answer-2 c = search needs
+
+put-value-requires : tie.Need-put-value-requires
+put-value-requires c κs = search needs
+
+same-length : tie.Need-same-length
+same-length c = search needs
+
+returns : tie.Need-returns
+returns c = spelled (no-field-words (c .before .before .before .before .before .before .before .before .before .before .before .before .before .args .answer) (c .before .before .before .before .before .before .before .before .before .before .answer .given .0 .0) (c .before .before .before .before .before .before .before .before .before .before .answer .given .1)) (then (c .before .before .before .before .before .before .before .put-refusal .ensures) (c .before .before .put-words .ensures))
+
+same-length-2 : tie.Need-same-length-2
+same-length-2 c = search needs
+
+returns-2 : tie.Need-returns-2
+returns-2 c = spelled (field-words (c .before .before .before .before .before .before .before .before .args .answer) (c .before .before .before .before .before .answer2 .given .0 .0) (c .before .before .before .before .before .answer2 .given .1)) (c .before .before .put-value .ensures)
+
+pub put-field-spec : {M : Type 1} → statement M
+put-field-spec =
+    tie.close
+    (tie.spec
+    enum-known-answer
+    put-refusal-requires
+    slice-aggregate-put-words
+    put-words-requires
+    enum-known-answer-2
+    put-value-requires
+    same-length
+    returns
+    same-length-2
+    returns-2)
