@@ -1,12 +1,12 @@
 //! Products with the facts of the source documents: entry names, types, record sizes and SPH lines of
 //! GOMOS (source 001) and SCIAMACHY (source 003) products. Record contents are a pattern.
 
-use super::description::{state_record, Description, EntryDescription, Number, StateDescription};
+use super::description::{Description, EntryDescription, Number, StateDescription};
 
 /// The facts of one product: SPH lines and entries (type, name, records, record size).
 struct Facts {
     product: &'static str,
-    sph_lines: &'static str,
+    sph_lines: &'static [&'static str],
     entries: &'static [(u8, &'static str, usize, usize)],
 }
 
@@ -22,38 +22,48 @@ pub const CATALOGUE_NAMES: [&str; 8] = [
     "SCI_NL__1P",
 ];
 
+/// The SPH lines that the GOMOS products of an occultation share.
+const OCCULTATION_LINES: &str = concat!(
+    "START_TIME=\"01-JAN-2000 00:00:00.000000\"\n",
+    "STOP_TIME=\"01-JAN-2000 00:00:00.000000\"\n",
+    "START_TANGENT_LAT=+0045000000<10-6degN>\n",
+    "START_TANGENT_LONG=-0012000000<10-6degE>\n",
+    "STOP_TANGENT_LAT=+0046000000<10-6degN>\n",
+    "STOP_TANGENT_LONG=-0012500000<10-6degE>\n",
+    "                                                  \n",
+    "OCC_DURATION=+00050<10-2s>\n",
+    "SAMP_DURATION=+00500<10-3s>\n",
+    "NUM_MEASURE=+00001\n",
+    "INS_STATUS=0\n",
+    "OCC_NUM=+001\n",
+    "STAR=Sirius       \n",
+    "STAR_ID=+00001\n",
+    "STAR_MAG=-01440<10-3>\n",
+    "STAR_TEMP=+0000110000<10-1K>\n",
+    "STAR_DIRECT1=+1.01287155E+02-1.67161159E+01<deg>\n",
+    "STAR_DIRECT2=+1.00000000E+00+0.00000000E+00+0.00000000E+00\n",
+    "BRIGHT_LIMB=0\n",
+);
+
+/// The SPH lines that the GOMOS level 2 products share behind these.
+const LEVEL_2_LINES: &str = concat!(
+    "NUM_LV2PROC=+00001\n",
+    "                               \n",
+    "REF_WAVELENGTH=+0000500000<10-3nm>\n",
+    "TIME_SHIFT=+00250<10-3s>\n",
+);
+
 const GOM_NL_2P: Facts = Facts {
     product: "GOM_NL__2P",
-    sph_lines: concat!(
+    sph_lines: &[
         "SPH_DESCRIPTOR=\"GOMOS LEVEL 2               \"\n",
-        "START_TIME=\"01-JAN-2000 00:00:00.000000\"\n",
-        "STOP_TIME=\"01-JAN-2000 00:00:00.000000\"\n",
-        "START_TANGENT_LAT=+0045000000<10-6degN>\n",
-        "START_TANGENT_LONG=-0012000000<10-6degE>\n",
-        "STOP_TANGENT_LAT=+0046000000<10-6degN>\n",
-        "STOP_TANGENT_LONG=-0012500000<10-6degE>\n",
-        "                                                  \n",
-        "OCC_DURATION=+00050<10-2s>\n",
-        "SAMP_DURATION=+00500<10-3s>\n",
-        "NUM_MEASURE=+00001\n",
-        "INS_STATUS=0\n",
-        "OCC_NUM=+001\n",
-        "STAR=Sirius       \n",
-        "STAR_ID=+00001\n",
-        "STAR_MAG=-01440<10-3>\n",
-        "STAR_TEMP=+0000110000<10-1K>\n",
-        "STAR_DIRECT1=+1.01287155E+02-1.67161159E+01<deg>\n",
-        "STAR_DIRECT2=+1.00000000E+00+0.00000000E+00+0.00000000E+00\n",
-        "BRIGHT_LIMB=0\n",
-        "NUM_LV2PROC=+00001\n",
-        "                               \n",
-        "REF_WAVELENGTH=+0000500000<10-3nm>\n",
-        "TIME_SHIFT=+00250<10-3s>\n",
+        OCCULTATION_LINES,
+        LEVEL_2_LINES,
         "TURB_START=-00001\n",
         "TURB_SIZE=+00000\n",
         "CC_WIND_LENGTH=+1.50000000E+02<m>\n",
         "                                                  \n",
-    ),
+    ],
     entries: &[
         (b'G', "NL_SUMMARY_QUALITY", 1, 153),
         (b'M', "NL_LOCAL_SPECIES_DENSITY", 1, 81),
@@ -72,10 +82,10 @@ const GOM_NL_2P: Facts = Facts {
 
 const GOM_RR_2P: Facts = Facts {
     product: "GOM_RR__2P",
-    sph_lines: concat!(
+    sph_lines: &[
         "SPH_DESCRIPTOR=\"GOMOS EXTRACTED PROFILES    \"\n",
         "                                                   \n",
-    ),
+    ],
     entries: &[
         (b'M', "RR_LOCAL_SPECIES_DENSITY", 1, 81),
         (b'A', "RR_GEOLOCATION", 1, 94),
@@ -86,34 +96,13 @@ const GOM_RR_2P: Facts = Facts {
 
 const GOM_EXT_2P: Facts = Facts {
     product: "GOM_EXT_2P",
-    sph_lines: concat!(
+    sph_lines: &[
         "SPH_DESCRIPTOR=\"GOMOS RESIDUAL EXTINCTION   \"\n",
-        "START_TIME=\"01-JAN-2000 00:00:00.000000\"\n",
-        "STOP_TIME=\"01-JAN-2000 00:00:00.000000\"\n",
-        "START_TANGENT_LAT=+0045000000<10-6degN>\n",
-        "START_TANGENT_LONG=-0012000000<10-6degE>\n",
-        "STOP_TANGENT_LAT=+0046000000<10-6degN>\n",
-        "STOP_TANGENT_LONG=-0012500000<10-6degE>\n",
-        "                                                  \n",
-        "OCC_DURATION=+00050<10-2s>\n",
-        "SAMP_DURATION=+00500<10-3s>\n",
-        "NUM_MEASURE=+00001\n",
-        "INS_STATUS=0\n",
-        "OCC_NUM=+001\n",
-        "STAR=Sirius       \n",
-        "STAR_ID=+00001\n",
-        "STAR_MAG=-01440<10-3>\n",
-        "STAR_TEMP=+0000110000<10-1K>\n",
-        "STAR_DIRECT1=+1.01287155E+02-1.67161159E+01<deg>\n",
-        "STAR_DIRECT2=+1.00000000E+00+0.00000000E+00+0.00000000E+00\n",
-        "BRIGHT_LIMB=0\n",
-        "NUM_LV2PROC=+00001\n",
-        "                               \n",
-        "REF_WAVELENGTH=+0000500000<10-3nm>\n",
-        "TIME_SHIFT=+00250<10-3s>\n",
+        OCCULTATION_LINES,
+        LEVEL_2_LINES,
         "MEAN_WAVELENGTH=+0000495000<10-3nm>\n",
         "                                                  \n",
-    ),
+    ],
     entries: &[
         (b'G', "EXT_SUMMARY_QUALITY", 1, 153),
         (b'G', "EXT_NOM_WAV_ASSIGNMENT", 1, 9408),
@@ -129,29 +118,11 @@ const GOM_EXT_2P: Facts = Facts {
 
 const GOM_LIM_1P: Facts = Facts {
     product: "GOM_LIM_1P",
-    sph_lines: concat!(
+    sph_lines: &[
         "SPH_DESCRIPTOR=\"GOMOS LIMB                  \"\n",
-        "START_TIME=\"01-JAN-2000 00:00:00.000000\"\n",
-        "STOP_TIME=\"01-JAN-2000 00:00:00.000000\"\n",
-        "START_TANGENT_LAT=+0045000000<10-6degN>\n",
-        "START_TANGENT_LONG=-0012000000<10-6degE>\n",
-        "STOP_TANGENT_LAT=+0046000000<10-6degN>\n",
-        "STOP_TANGENT_LONG=-0012500000<10-6degE>\n",
+        OCCULTATION_LINES,
         "                                                  \n",
-        "OCC_DURATION=+00050<10-2s>\n",
-        "SAMP_DURATION=+00500<10-3s>\n",
-        "NUM_MEASURE=+00001\n",
-        "INS_STATUS=0\n",
-        "OCC_NUM=+001\n",
-        "STAR=Sirius       \n",
-        "STAR_ID=+00001\n",
-        "STAR_MAG=-01440<10-3>\n",
-        "STAR_TEMP=+0000110000<10-1K>\n",
-        "STAR_DIRECT1=+1.01287155E+02-1.67161159E+01<deg>\n",
-        "STAR_DIRECT2=+1.00000000E+00+0.00000000E+00+0.00000000E+00\n",
-        "BRIGHT_LIMB=0\n",
-        "                                                  \n",
-    ),
+    ],
     entries: &[
         (b'G', "LIM_SUMMARY_QUALITY", 1, 76),
         (b'G', "LIM_OCCULTATION_DATA", 1, 1053),
@@ -173,29 +144,11 @@ const GOM_LIM_1P: Facts = Facts {
 
 const GOM_TRA_1P: Facts = Facts {
     product: "GOM_TRA_1P",
-    sph_lines: concat!(
+    sph_lines: &[
         "SPH_DESCRIPTOR=\"GOMOS LEVEL 1B              \"\n",
-        "START_TIME=\"01-JAN-2000 00:00:00.000000\"\n",
-        "STOP_TIME=\"01-JAN-2000 00:00:00.000000\"\n",
-        "START_TANGENT_LAT=+0045000000<10-6degN>\n",
-        "START_TANGENT_LONG=-0012000000<10-6degE>\n",
-        "STOP_TANGENT_LAT=+0046000000<10-6degN>\n",
-        "STOP_TANGENT_LONG=-0012500000<10-6degE>\n",
+        OCCULTATION_LINES,
         "                                                  \n",
-        "OCC_DURATION=+00050<10-2s>\n",
-        "SAMP_DURATION=+00500<10-3s>\n",
-        "NUM_MEASURE=+00001\n",
-        "INS_STATUS=0\n",
-        "OCC_NUM=+001\n",
-        "STAR=Sirius       \n",
-        "STAR_ID=+00001\n",
-        "STAR_MAG=-01440<10-3>\n",
-        "STAR_TEMP=+0000110000<10-1K>\n",
-        "STAR_DIRECT1=+1.01287155E+02-1.67161159E+01<deg>\n",
-        "STAR_DIRECT2=+1.00000000E+00+0.00000000E+00+0.00000000E+00\n",
-        "BRIGHT_LIMB=0\n",
-        "                                                  \n",
-    ),
+    ],
     entries: &[
         (b'G', "TRA_SUMMARY_QUALITY", 1, 76),
         (b'G', "TRA_OCCULTATION_DATA", 1, 16200),
@@ -221,16 +174,16 @@ const GOM_TRA_1P: Facts = Facts {
 
 const GOM_PR1_AX: Facts = Facts {
     product: "GOM_PR1_AX",
-    sph_lines: concat!(
+    sph_lines: &[
         "SPH_DESCRIPTOR=\"GOMOS LEVEL 1B CONFIG       \"\n",
         "                                                   \n",
-    ),
+    ],
     entries: &[(b'G', "PR1_GENERAL", 1, 346), (b'G', "PR1_ATMOSPHERE", 1, 244)],
 };
 
 const SCI_RV_2P: Facts = Facts {
     product: "SCI_RV__2P",
-    sph_lines: concat!(
+    sph_lines: &[
         "SPH_DESCRIPTOR=\"SCI_RV__2P SPECIFIC HEADER  \"\n",
         "STRIPLINE_CONTINUITY_INDICATOR=+000\n",
         "SLICE_POSITION=+001\n",
@@ -244,7 +197,7 @@ const SCI_RV_2P: Facts = Facts {
         "                                                  \n",
         "FITTING_ERROR_SUM=\"GOOD\"\n",
         "DOAS_FITTING_WINDOW_0=\" 325- 335\"\n",
-    ),
+    ],
     entries: &[
         (b'A', "GEOLOCATION", 5, 47),
         (b'M', "O3_VERTICAL_COLUMN", 5, 23),
@@ -254,7 +207,7 @@ const SCI_RV_2P: Facts = Facts {
 
 const SCI_NL_1P: Facts = Facts {
     product: "SCI_NL__1P",
-    sph_lines: concat!(
+    sph_lines: &[
         "SPH_DESCRIPTOR=\"SCI_NL__1P SPECIFIC HEADER  \"\n",
         "STRIPLINE_CONTINUITY_INDICATOR=+000\n",
         "SLICE_POSITION=+001\n",
@@ -280,7 +233,7 @@ const SCI_NL_1P: Facts = Facts {
         "COMP_DARK_STATES=    \n",
         "INCOMP_DARK_STATES=    \n",
         "    \n",
-    ),
+    ],
     entries: &[
         (b'A', "SUMMARY_QUALITY", 7, 182),
         (b'A', "GEOLOCATION", 7, 45),
@@ -327,14 +280,14 @@ const SCI_NL_1P: Facts = Facts {
 };
 
 /// The states of the SCI_NL__1P built here.
-const STATES: [(u8, u8, u16, u32); 7] = [
-    (0, 1, 3, 40),
-    (0, 2, 2, 55),
-    (1, 1, 7, 99),
-    (0, 1, 2, 25),
-    (0, 3, 1, 60),
-    (0, 4, 2, 33),
-    (0, 2, 0, 0),
+const STATES: [StateDescription; 7] = [
+    StateDescription::new(0, 1, 3, 40),
+    StateDescription::new(0, 2, 2, 55),
+    StateDescription::new(1, 1, 7, 99),
+    StateDescription::new(0, 1, 2, 25),
+    StateDescription::new(0, 3, 1, 60),
+    StateDescription::new(0, 4, 2, 33),
+    StateDescription::new(0, 2, 0, 0),
 ];
 
 fn described(facts: &Facts) -> Description {
@@ -354,7 +307,7 @@ fn described(facts: &Facts) -> Description {
         }
         description.entries.push(entry);
     }
-    description.sph_lines = facts.sph_lines.into();
+    description.sph_lines = facts.sph_lines.concat().into_bytes();
     describe_header(&mut description, facts.product);
     description
 }
@@ -380,15 +333,11 @@ fn describe_header(description: &mut Description, product: &str) {
 }
 
 /// Puts the states and the four variable sets they describe into a SCI_NL__1P.
-fn attach_states(description: &mut Description) {
-    let states = STATES.map(|(flag, kind, count, length)| {
-        state_record(StateDescription { flag, kind, count, length })
-    });
+fn attach_states(description: &mut Description, states: &[StateDescription]) {
     for entry in &mut description.entries {
         let kind = match entry.name.as_slice() {
             b"STATES" => {
-                *entry = EntryDescription::records(b'A', "STATES", states.len(), 1387);
-                entry.data = states.concat();
+                *entry = EntryDescription::states(states);
                 continue;
             }
             b"NADIR" => 1,
@@ -397,13 +346,8 @@ fn attach_states(description: &mut Description) {
             b"MONITORING" => 4,
             _ => continue,
         };
-        let attached = STATES.iter().filter(|state| state.0 == 0 && state.1 == kind);
-        let (count, size) = attached.fold((0, 0), |(count, size), state| {
-            let records = usize::from(state.2);
-            (count + records, size + records * state.3 as usize)
-        });
         let name = String::from_utf8_lossy(&entry.name).into_owned();
-        *entry = EntryDescription::variable(&name, count, size);
+        *entry = EntryDescription::filled_by(states, kind, &name);
     }
 }
 
@@ -439,7 +383,15 @@ pub(super) fn catalogue_description(name: &str) -> Option<Description> {
     ];
     let facts = all.into_iter().find(|facts| facts.product == name)?;
     let mut description = described(facts);
-    attach_states(&mut description);
+    attach_states(&mut description, &STATES);
     trace_rays(&mut description);
     Some(description)
+}
+
+/// A SCI_NL__1P with 1,000 states: the built ones' again and again.
+pub(super) fn thousand_states() -> Description {
+    let states: Vec<StateDescription> = STATES.iter().copied().cycle().take(1000).collect();
+    let mut description = described(&SCI_NL_1P);
+    attach_states(&mut description, &states);
+    description
 }

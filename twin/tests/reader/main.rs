@@ -11,3 +11,4 @@ mod rule_by_rule;
 mod sets;
 mod sph_lines;
 mod states;
+mod stored;
