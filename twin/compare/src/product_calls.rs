@@ -25,9 +25,14 @@ impl Comparer {
         let sph_size = Call::HeaderValues.answer(product).words[SPH_SIZE_WORD];
         let mut joined = Vec::with_capacity(product.len());
         for entry in in_file_order(&directory) {
-            for record in 0..entry_words(&directory, entry)[3] as usize {
+            for record in 0..count_of(&directory, entry) {
                 joined.extend(self.compare_record(product, entry, record, choices));
             }
+        }
+        for entry in 0..directory.words[3] as usize {
+            let record = count_of(&directory, entry);
+            self.compare(product, Call::RecordPlace { entry, record });
+            self.compare(product, Call::RecordPart { entry, record });
         }
         let behind_headers = &product[(MAIN_HEADER_END + sph_size) as usize..];
         assert!(joined == behind_headers, "the joined records are not the product");
@@ -37,7 +42,7 @@ impl Comparer {
     pub fn compare_some(&mut self, product: &[u8], most_records: usize, choices: &mut Generator) {
         let directory = self.compare_whole(product, choices);
         for entry in 0..directory.words[3] as usize {
-            let count = entry_words(&directory, entry)[3] as usize;
+            let count = count_of(&directory, entry);
             for record in 0..count.min(most_records) {
                 self.compare_record(product, entry, record, choices);
             }
@@ -54,13 +59,12 @@ impl Comparer {
         }
         let directory = self.compare(product, Call::OpenDirectory);
         let entries = directory.words[3] as usize;
-        for entry in 0..=entries {
-            let count = if entry < entries { entry_words(&directory, entry)[3] as usize } else { 0 };
-            self.compare_refused(product, entry, count, choices);
-        }
-        let (entry, record) = (choices.choose(&FAR), choices.choose(&FAR));
-        self.compare_refused(product, entry, 0, choices);
-        self.compare_refused(product, choices.index(entries + 1), record, choices);
+        let entry = choices.index(entries + 1);
+        let record = if entry < entries { count_of(&directory, entry) } else { 0 };
+        self.compare_refused(product, entry, record, choices);
+        let far = choices.choose(&FAR);
+        let (entry, record) = choices.choose(&[(entries, 0), (far, 0), (entry, far)]);
+        self.compare_refused(product, entry, record, choices);
         directory
     }
 
@@ -79,7 +83,7 @@ impl Comparer {
         self.compare(product, Call::PointAt { entry, record, offsets: [0, 4, 8] });
     }
 
-    /// A record: its place and part, fields of two kinds and a point; answers its bytes.
+    /// A record: its place and part, and a field or a point; answers its bytes.
     fn compare_record(
         &mut self,
         product: &[u8],
@@ -91,15 +95,21 @@ impl Comparer {
         let part = self.compare(product, Call::RecordPart { entry, record });
         assert_eq!(place.words[4], part.words[0], "place and part do not have one length");
         let length = part.bytes.len();
-        for _ in 0..2 {
+        if choices.once_in(3) {
+            let room = length.saturating_sub(3);
+            let offsets = [0; 3].map(|_| choices.index(room + 1));
+            self.compare(product, Call::PointAt { entry, record, offsets });
+        } else {
             let (offset, kind) = (choices.index(length + 2), choices.index(11) as u8);
             self.compare(product, Call::FieldAt { entry, record, offset, kind });
         }
-        let room = length.saturating_sub(3);
-        let offsets = [0; 3].map(|_| choices.index(room + 1));
-        self.compare(product, Call::PointAt { entry, record, offsets });
         part.bytes
     }
+}
+
+/// The number of records of an entry.
+fn count_of(directory: &Answer, entry: usize) -> usize {
+    entry_words(directory, entry)[3] as usize
 }
 
 /// The non-empty sets by where they start.

@@ -8,8 +8,9 @@ use twin::words::{Answer, Call};
 
 use crate::comparing::Lengths;
 
-/// The longest product that is written whole.
+/// The longest product that is written whole; of a longer one, its headers.
 const LONGEST_WRITTEN: usize = 100_000_000;
+const LONGEST_HEADERS: usize = 50_399;
 /// The most elements of a room that are shown.
 const MOST_SHOWN: usize = 40;
 
@@ -54,9 +55,10 @@ fn keep(product: &[u8]) -> String {
     static KEPT: AtomicUsize = AtomicUsize::new(0);
     let number = KEPT.fetch_add(1, Ordering::Relaxed);
     let path = std::env::temp_dir().join(format!("ambrothel-{}-{number}", std::process::id()));
-    let part = &product[..product.len().min(LONGEST_WRITTEN)];
+    let whole = product.len() <= LONGEST_WRITTEN;
+    let part = if whole { product } else { &product[..LONGEST_HEADERS] };
     match fs::write(&path, part) {
-        Ok(()) if part.len() == product.len() => path.display().to_string(),
+        Ok(()) if whole => path.display().to_string(),
         Ok(()) => format!("{} (its first {} bytes)", path.display(), part.len()),
         Err(error) => format!("no file: {error}"),
     }
