@@ -3,11 +3,14 @@
 
 use super::description::{Description, EntryDescription, Number, StateDescription};
 
-/// The facts of one product: SPH lines and entries (type, name, records, record size).
+/// The facts of one product: SPH lines, sets (type, name, records, record size), and behind them the names of the
+/// R entries and the number of spares.
 struct Facts {
     product: &'static str,
     sph_lines: &'static [&'static str],
-    entries: &'static [(u8, &'static str, usize, usize)],
+    sets: &'static [(u8, &'static str, usize, usize)],
+    references: &'static [&'static str],
+    spares: usize,
 }
 
 /// The products that can be built, by their product identifier.
@@ -53,6 +56,38 @@ const LEVEL_2_LINES: &str = concat!(
     "TIME_SHIFT=+00250<10-3s>\n",
 );
 
+/// The R entries that the GOMOS level 2 products share.
+const LEVEL_2_REFERENCES: &[&str] =
+    &["LEVEL-1B_PRODUCT", "INST_PHYS_CHARACTERISTICS", "LEVEL-2_PROC_CONFIG", "CROSS_SECTIONS_FILE"];
+
+/// The R entries that the GOMOS level 1b products share.
+const LEVEL_1B_REFERENCES: &[&str] = &[
+    "LEVEL_0_PRODUCT",
+    "INST_PHYS_CHARACTERISTICS",
+    "CALIBRATION_DATABASE",
+    "LEVEL-1B_PROC_CONFIG",
+    "STAR_CATALOGUE",
+    "STELLAR_SPECTRA_DATABANK",
+    "ECMWF_FILE",
+    "OPTIONAL_ECMWF_FILE",
+    "ORBIT_DATA_FILE",
+    "ATTITUDE_FILE",
+];
+
+/// The SPH lines that the SCIAMACHY products share.
+const SLICE_LINES: &str = concat!(
+    "STRIPLINE_CONTINUITY_INDICATOR=+000\n",
+    "SLICE_POSITION=+001\n",
+    "NUM_SLICES=+001\n",
+    "START_TIME=\"27-JUN-2007 10:00:00.000000\"\n",
+    "STOP_TIME=\"27-JUN-2007 11:40:00.000000\"\n",
+    "START_LAT=+0045000000<10-6degN>\n",
+    "START_LONG=-0012500000<10-6degE>\n",
+    "STOP_LAT=-0030000000<10-6degN>\n",
+    "STOP_LONG=+0179999999<10-6degE>\n",
+    "                                                  \n",
+);
+
 const GOM_NL_2P: Facts = Facts {
     product: "GOM_NL__2P",
     sph_lines: &[
@@ -64,7 +99,7 @@ const GOM_NL_2P: Facts = Facts {
         "CC_WIND_LENGTH=+1.50000000E+02<m>\n",
         "                                                  \n",
     ],
-    entries: &[
+    sets: &[
         (b'G', "NL_SUMMARY_QUALITY", 1, 153),
         (b'M', "NL_LOCAL_SPECIES_DENSITY", 1, 81),
         (b'M', "NL_TANGENT_LINE_DENSITY", 1, 81),
@@ -72,12 +107,9 @@ const GOM_NL_2P: Facts = Facts {
         (b'M', "NL_HIGH_RES_TEMPERATURE", 1, 253),
         (b'A', "NL_GEOLOCATION", 1, 94),
         (b'A', "NL_ACCURACY_ESTIMATION", 1, 671),
-        (b'R', "LEVEL-1B_PRODUCT", 0, 0),
-        (b'R', "INST_PHYS_CHARACTERISTICS", 0, 0),
-        (b'R', "LEVEL-2_PROC_CONFIG", 0, 0),
-        (b'R', "CROSS_SECTIONS_FILE", 0, 0),
-        (b' ', "", 0, 0),
     ],
+    references: LEVEL_2_REFERENCES,
+    spares: 1,
 };
 
 const GOM_RR_2P: Facts = Facts {
@@ -86,12 +118,13 @@ const GOM_RR_2P: Facts = Facts {
         "SPH_DESCRIPTOR=\"GOMOS EXTRACTED PROFILES    \"\n",
         "                                                   \n",
     ],
-    entries: &[
+    sets: &[
         (b'M', "RR_LOCAL_SPECIES_DENSITY", 1, 81),
         (b'A', "RR_GEOLOCATION", 1, 94),
         (b'M', "RR_HIGH_RES_TEMPERATURE", 1, 253),
-        (b'R', "LEVEL-1B_PRODUCT", 0, 0),
     ],
+    references: &["LEVEL-1B_PRODUCT"],
+    spares: 0,
 };
 
 const GOM_EXT_2P: Facts = Facts {
@@ -103,17 +136,14 @@ const GOM_EXT_2P: Facts = Facts {
         "MEAN_WAVELENGTH=+0000495000<10-3nm>\n",
         "                                                  \n",
     ],
-    entries: &[
+    sets: &[
         (b'G', "EXT_SUMMARY_QUALITY", 1, 153),
         (b'G', "EXT_NOM_WAV_ASSIGNMENT", 1, 9408),
         (b'M', "EXT_MDS", 1, 25709),
         (b'A', "EXT_ADS", 1, 4733),
-        (b'R', "LEVEL-1B_PRODUCT", 0, 0),
-        (b'R', "INST_PHYS_CHARACTERISTICS", 0, 0),
-        (b'R', "LEVEL-2_PROC_CONFIG", 0, 0),
-        (b'R', "CROSS_SECTIONS_FILE", 0, 0),
-        (b' ', "", 0, 0),
     ],
+    references: LEVEL_2_REFERENCES,
+    spares: 1,
 };
 
 const GOM_LIM_1P: Facts = Facts {
@@ -123,23 +153,15 @@ const GOM_LIM_1P: Facts = Facts {
         OCCULTATION_LINES,
         "                                                  \n",
     ],
-    entries: &[
+    sets: &[
         (b'G', "LIM_SUMMARY_QUALITY", 1, 76),
         (b'G', "LIM_OCCULTATION_DATA", 1, 1053),
         (b'G', "LIM_NOM_WAV_ASSIGNMENT", 1, 9408),
         (b'M', "LIM_MDS", 1, 28045),
         (b'A', "LIM_ADS", 1, 133),
-        (b'R', "LEVEL_0_PRODUCT", 0, 0),
-        (b'R', "INST_PHYS_CHARACTERISTICS", 0, 0),
-        (b'R', "CALIBRATION_DATABASE", 0, 0),
-        (b'R', "LEVEL-1B_PROC_CONFIG", 0, 0),
-        (b'R', "STAR_CATALOGUE", 0, 0),
-        (b'R', "STELLAR_SPECTRA_DATABANK", 0, 0),
-        (b'R', "ECMWF_FILE", 0, 0),
-        (b'R', "OPTIONAL_ECMWF_FILE", 0, 0),
-        (b'R', "ORBIT_DATA_FILE", 0, 0),
-        (b'R', "ATTITUDE_FILE", 0, 0),
     ],
+    references: LEVEL_1B_REFERENCES,
+    spares: 0,
 };
 
 const GOM_TRA_1P: Facts = Facts {
@@ -149,7 +171,7 @@ const GOM_TRA_1P: Facts = Facts {
         OCCULTATION_LINES,
         "                                                  \n",
     ],
-    entries: &[
+    sets: &[
         (b'G', "TRA_SUMMARY_QUALITY", 1, 76),
         (b'G', "TRA_OCCULTATION_DATA", 1, 16200),
         (b'G', "TRA_NOM_WAV_ASSIGNMENT", 1, 9408),
@@ -159,17 +181,9 @@ const GOM_TRA_1P: Facts = Facts {
         (b'M', "TRA_SATU_AND_SFA_DATA", 1, 453),
         (b'A', "TRA_AUXILIARY_DATA", 1, 4725),
         (b'A', "TRA_GEOLOCATION", 2, 2585),
-        (b'R', "LEVEL_0_PRODUCT", 0, 0),
-        (b'R', "INST_PHYS_CHARACTERISTICS", 0, 0),
-        (b'R', "CALIBRATION_DATABASE", 0, 0),
-        (b'R', "LEVEL-1B_PROC_CONFIG", 0, 0),
-        (b'R', "STAR_CATALOGUE", 0, 0),
-        (b'R', "STELLAR_SPECTRA_DATABANK", 0, 0),
-        (b'R', "ECMWF_FILE", 0, 0),
-        (b'R', "OPTIONAL_ECMWF_FILE", 0, 0),
-        (b'R', "ORBIT_DATA_FILE", 0, 0),
-        (b'R', "ATTITUDE_FILE", 0, 0),
     ],
+    references: LEVEL_1B_REFERENCES,
+    spares: 0,
 };
 
 const GOM_PR1_AX: Facts = Facts {
@@ -178,47 +192,29 @@ const GOM_PR1_AX: Facts = Facts {
         "SPH_DESCRIPTOR=\"GOMOS LEVEL 1B CONFIG       \"\n",
         "                                                   \n",
     ],
-    entries: &[(b'G', "PR1_GENERAL", 1, 346), (b'G', "PR1_ATMOSPHERE", 1, 244)],
+    sets: &[(b'G', "PR1_GENERAL", 1, 346), (b'G', "PR1_ATMOSPHERE", 1, 244)],
+    references: &[],
+    spares: 0,
 };
 
 const SCI_RV_2P: Facts = Facts {
     product: "SCI_RV__2P",
     sph_lines: &[
         "SPH_DESCRIPTOR=\"SCI_RV__2P SPECIFIC HEADER  \"\n",
-        "STRIPLINE_CONTINUITY_INDICATOR=+000\n",
-        "SLICE_POSITION=+001\n",
-        "NUM_SLICES=+001\n",
-        "START_TIME=\"27-JUN-2007 10:00:00.000000\"\n",
-        "STOP_TIME=\"27-JUN-2007 11:40:00.000000\"\n",
-        "START_LAT=+0045000000<10-6degN>\n",
-        "START_LONG=-0012500000<10-6degE>\n",
-        "STOP_LAT=-0030000000<10-6degN>\n",
-        "STOP_LONG=+0179999999<10-6degE>\n",
-        "                                                  \n",
+        SLICE_LINES,
         "FITTING_ERROR_SUM=\"GOOD\"\n",
         "DOAS_FITTING_WINDOW_0=\" 325- 335\"\n",
     ],
-    entries: &[
-        (b'A', "GEOLOCATION", 5, 47),
-        (b'M', "O3_VERTICAL_COLUMN", 5, 23),
-        (b'R', "SCI_NL__2P", 0, 0),
-    ],
+    sets: &[(b'A', "GEOLOCATION", 5, 47), (b'M', "O3_VERTICAL_COLUMN", 5, 23)],
+    references: &["SCI_NL__2P"],
+    spares: 0,
 };
 
 const SCI_NL_1P: Facts = Facts {
     product: "SCI_NL__1P",
     sph_lines: &[
         "SPH_DESCRIPTOR=\"SCI_NL__1P SPECIFIC HEADER  \"\n",
-        "STRIPLINE_CONTINUITY_INDICATOR=+000\n",
-        "SLICE_POSITION=+001\n",
-        "NUM_SLICES=+001\n",
-        "START_TIME=\"27-JUN-2007 10:00:00.000000\"\n",
-        "STOP_TIME=\"27-JUN-2007 11:40:00.000000\"\n",
-        "START_LAT=+0045000000<10-6degN>\n",
-        "START_LONG=-0012500000<10-6degE>\n",
-        "STOP_LAT=-0030000000<10-6degN>\n",
-        "STOP_LONG=+0179999999<10-6degE>\n",
-        "                                                  \n",
+        SLICE_LINES,
         "KEY_DATA_VERSION=\"01.25\"\n",
         "M_FACTOR_VERSION=\"01.25\"\n",
         "SPECTRAL_CAL_CHECK_SUM=\"GOOD\"\n",
@@ -234,7 +230,7 @@ const SCI_NL_1P: Facts = Facts {
         "INCOMP_DARK_STATES=    \n",
         "    \n",
     ],
-    entries: &[
+    sets: &[
         (b'A', "SUMMARY_QUALITY", 7, 182),
         (b'A', "GEOLOCATION", 7, 45),
         (b'G', "INSTRUMENT_PARAMS", 1, 382),
@@ -265,18 +261,20 @@ const SCI_NL_1P: Facts = Facts {
         (b'M', "LIMB", 0, 0),
         (b'M', "OCCULTATION", 0, 0),
         (b'M', "MONITORING", 0, 0),
-        (b'R', "LEVEL_0_PRODUCT", 0, 0),
-        (b'R', "LEAKAGE_FILE", 0, 0),
-        (b'R', "PPG_ETALON_FILE", 0, 0),
-        (b'R', "SPECTRAL_FILE", 0, 0),
-        (b'R', "SUN_REF_FILE", 0, 0),
-        (b'R', "KEY_DATA_FILE", 0, 0),
-        (b'R', "M_FACTOR_FILE", 0, 0),
-        (b'R', "INIT_FILE", 0, 0),
-        (b'R', "ORBIT_FILE", 0, 0),
-        (b'R', "ATTITUDE_FILE", 0, 0),
-        (b' ', "", 0, 0),
     ],
+    references: &[
+        "LEVEL_0_PRODUCT",
+        "LEAKAGE_FILE",
+        "PPG_ETALON_FILE",
+        "SPECTRAL_FILE",
+        "SUN_REF_FILE",
+        "KEY_DATA_FILE",
+        "M_FACTOR_FILE",
+        "INIT_FILE",
+        "ORBIT_FILE",
+        "ATTITUDE_FILE",
+    ],
+    spares: 1,
 };
 
 /// The states of the SCI_NL__1P built here.
@@ -290,23 +288,26 @@ const STATES: [StateDescription; 7] = [
     StateDescription::new(0, 2, 0, 0),
 ];
 
-fn described(facts: &Facts) -> Description {
-    let mut description = Description::new(Vec::new());
-    for &(set_type, name, count, record_size) in facts.entries {
-        let mut entry = match set_type {
-            b' ' => EntryDescription::spare(),
-            _ => EntryDescription::records(set_type, name, count, record_size),
-        };
-        if count == 0 && matches!(set_type, b'M' | b'A' | b'G') {
-            entry.filename = b"NOT USED".to_vec();
-            entry.record_size = Some(Number::from(0));
-        } else if set_type == b'R' {
-            entry.filename = b"MISSING".to_vec();
-        } else {
-            entry.filename = b"ATTACHED".to_vec();
-        }
-        description.entries.push(entry);
+/// An entry of the catalogue: empty sets are not used, R entries name a file that is missing.
+fn described_entry(set_type: u8, name: &str, count: usize, record_size: usize) -> EntryDescription {
+    let mut entry = EntryDescription::records(set_type, name, count, record_size);
+    if set_type == b'R' {
+        entry.filename = b"MISSING".to_vec();
+    } else if count == 0 {
+        entry.filename = b"NOT USED".to_vec();
+        entry.record_size = Some(Number::from(0));
+    } else {
+        entry.filename = b"ATTACHED".to_vec();
     }
+    entry
+}
+
+fn described(facts: &Facts) -> Description {
+    let sets = facts.sets.iter();
+    let sets = sets.map(|&(set_type, name, count, size)| described_entry(set_type, name, count, size));
+    let references = facts.references.iter().map(|name| described_entry(b'R', name, 0, 0));
+    let spares = std::iter::repeat_with(EntryDescription::spare).take(facts.spares);
+    let mut description = Description::new(sets.chain(references).chain(spares).collect());
     description.sph_lines = facts.sph_lines.concat().into_bytes();
     describe_header(&mut description, facts.product);
     description

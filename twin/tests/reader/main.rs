@@ -12,3 +12,4 @@ mod sets;
 mod sph_lines;
 mod states;
 mod stored;
+mod words;
