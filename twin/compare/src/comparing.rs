@@ -5,7 +5,7 @@ use std::fmt::Display;
 use twin::words::{Answer, Call};
 
 use crate::library::{ask, ROOM_TOO_SHORT, WRITTEN};
-use crate::report::{report, Asked};
+use crate::report::{report, report_of_product, Asked};
 use crate::rooms::{as_doubles, Room};
 
 /// The lengths of the rooms that are lent, in elements.
@@ -114,6 +114,11 @@ impl Comparer {
         let bytes = self.bytes.lend(lengths.bytes);
         let doubles = self.doubles.lend(lengths.doubles);
         ask(product, &call, words, bytes, as_doubles(doubles))
+    }
+
+    /// Says that the records of an accepted product do not join to it.
+    pub(crate) fn fail_joining(&self, product: &[u8]) -> ! {
+        panic!("the joined records are not the product\n{}", report_of_product(&self.origin, product))
     }
 
     fn fail(

@@ -28,9 +28,8 @@ pub(crate) struct Asked<'a> {
 /// The report; `expected` is the twin's answer, or none where a room was too short.
 pub(crate) fn report(asked: &Asked, rooms: &Answer, expected: Option<&Answer>) -> String {
     let mut text = String::from("the library does not answer as the twin\n");
+    text.push_str(&report_of_product(asked.origin, asked.product));
     let mut say = |line: String| text.push_str(&(line + "\n"));
-    say(format!("  product:  {}, {} bytes", asked.origin, asked.product.len()));
-    say(format!("  written to {}", keep(asked.product)));
     say(format!("  call:     {:?}", asked.call));
     say(format!("  lent:     {:?}", asked.lengths));
     say(format!("  returned: {}", asked.returned));
@@ -48,6 +47,11 @@ pub(crate) fn report(asked: &Asked, rooms: &Answer, expected: Option<&Answer>) -
     say(first_difference("bytes", &rooms.bytes, &expected.bytes));
     say(first_difference("doubles", &rooms.double_bits, &expected.double_bits));
     text
+}
+
+/// Where a product comes from and the file it is written to.
+pub(crate) fn report_of_product(origin: &str, product: &[u8]) -> String {
+    format!("  product:  {origin}, {} bytes\n  kept in:  {}\n", product.len(), keep(product))
 }
 
 /// Writes the product to a file of the system's temporary folder and tells its path.

@@ -4,9 +4,9 @@
 use std::hint::black_box;
 use std::time::{Duration, Instant};
 
-use compare::library;
+use compare::{library, Comparer};
 use twin::builder::named_product;
-use twin::words::{DIRECTORY_TEXTS, DIRECTORY_WORDS, VERDICT_WORDS};
+use twin::words::{Call, DIRECTORY_TEXTS, DIRECTORY_WORDS, VERDICT_WORDS};
 
 /// Rounds of each reader, and how long one round should take.
 const ROUNDS: usize = 60;
@@ -113,6 +113,8 @@ fn main() {
     );
     for (name, title) in PRODUCTS {
         let product = named_product(name).expect(name);
+        let verdict = Comparer::of(name).compare(&product, Call::Judge);
+        assert_eq!(verdict.words, [0, 0, 0], "{name} is not accepted");
         for (call, [ours, twins]) in [
             ("judge", time_judge(&product, &mut rooms)),
             ("directory", time_directory(&product, &mut rooms)),
