@@ -14,6 +14,8 @@ mod sets;
 mod sph_lines;
 mod states;
 mod text;
+pub mod vectors;
+pub mod words;
 
 pub use descriptors::ENTRIES;
 pub use directory::Directory;

@@ -1,13 +1,16 @@
 //! Products with the facts of the source documents: entry names, types, record sizes and SPH lines of
 //! GOMOS (source 001) and SCIAMACHY (source 003) products. Record contents are a pattern.
 
-use super::description::{state_record, Description, EntryDescription, Number, StateDescription};
+use super::description::{Description, EntryDescription, Number, StateDescription};
 
-/// The facts of one product: SPH lines and entries (type, name, records, record size).
+/// The facts of one product: SPH lines, sets (type, name, records, record size), and behind them the names of the
+/// R entries and the number of spares.
 struct Facts {
     product: &'static str,
-    sph_lines: &'static str,
-    entries: &'static [(u8, &'static str, usize, usize)],
+    sph_lines: &'static [&'static str],
+    sets: &'static [(u8, &'static str, usize, usize)],
+    references: &'static [&'static str],
+    spares: usize,
 }
 
 /// The products that can be built, by their product identifier.
@@ -22,39 +25,81 @@ pub const CATALOGUE_NAMES: [&str; 8] = [
     "SCI_NL__1P",
 ];
 
+/// The SPH lines that the GOMOS products of an occultation share.
+const OCCULTATION_LINES: &str = concat!(
+    "START_TIME=\"01-JAN-2000 00:00:00.000000\"\n",
+    "STOP_TIME=\"01-JAN-2000 00:00:00.000000\"\n",
+    "START_TANGENT_LAT=+0045000000<10-6degN>\n",
+    "START_TANGENT_LONG=-0012000000<10-6degE>\n",
+    "STOP_TANGENT_LAT=+0046000000<10-6degN>\n",
+    "STOP_TANGENT_LONG=-0012500000<10-6degE>\n",
+    "                                                  \n",
+    "OCC_DURATION=+00050<10-2s>\n",
+    "SAMP_DURATION=+00500<10-3s>\n",
+    "NUM_MEASURE=+00001\n",
+    "INS_STATUS=0\n",
+    "OCC_NUM=+001\n",
+    "STAR=Sirius       \n",
+    "STAR_ID=+00001\n",
+    "STAR_MAG=-01440<10-3>\n",
+    "STAR_TEMP=+0000110000<10-1K>\n",
+    "STAR_DIRECT1=+1.01287155E+02-1.67161159E+01<deg>\n",
+    "STAR_DIRECT2=+1.00000000E+00+0.00000000E+00+0.00000000E+00\n",
+    "BRIGHT_LIMB=0\n",
+);
+
+/// The SPH lines that the GOMOS level 2 products share behind these.
+const LEVEL_2_LINES: &str = concat!(
+    "NUM_LV2PROC=+00001\n",
+    "                               \n",
+    "REF_WAVELENGTH=+0000500000<10-3nm>\n",
+    "TIME_SHIFT=+00250<10-3s>\n",
+);
+
+/// The R entries that the GOMOS level 2 products share.
+const LEVEL_2_REFERENCES: &[&str] =
+    &["LEVEL-1B_PRODUCT", "INST_PHYS_CHARACTERISTICS", "LEVEL-2_PROC_CONFIG", "CROSS_SECTIONS_FILE"];
+
+/// The R entries that the GOMOS level 1b products share.
+const LEVEL_1B_REFERENCES: &[&str] = &[
+    "LEVEL_0_PRODUCT",
+    "INST_PHYS_CHARACTERISTICS",
+    "CALIBRATION_DATABASE",
+    "LEVEL-1B_PROC_CONFIG",
+    "STAR_CATALOGUE",
+    "STELLAR_SPECTRA_DATABANK",
+    "ECMWF_FILE",
+    "OPTIONAL_ECMWF_FILE",
+    "ORBIT_DATA_FILE",
+    "ATTITUDE_FILE",
+];
+
+/// The SPH lines that the SCIAMACHY products share.
+const SLICE_LINES: &str = concat!(
+    "STRIPLINE_CONTINUITY_INDICATOR=+000\n",
+    "SLICE_POSITION=+001\n",
+    "NUM_SLICES=+001\n",
+    "START_TIME=\"27-JUN-2007 10:00:00.000000\"\n",
+    "STOP_TIME=\"27-JUN-2007 11:40:00.000000\"\n",
+    "START_LAT=+0045000000<10-6degN>\n",
+    "START_LONG=-0012500000<10-6degE>\n",
+    "STOP_LAT=-0030000000<10-6degN>\n",
+    "STOP_LONG=+0179999999<10-6degE>\n",
+    "                                                  \n",
+);
+
 const GOM_NL_2P: Facts = Facts {
     product: "GOM_NL__2P",
-    sph_lines: concat!(
+    sph_lines: &[
         "SPH_DESCRIPTOR=\"GOMOS LEVEL 2               \"\n",
-        "START_TIME=\"01-JAN-2000 00:00:00.000000\"\n",
-        "STOP_TIME=\"01-JAN-2000 00:00:00.000000\"\n",
-        "START_TANGENT_LAT=+0045000000<10-6degN>\n",
-        "START_TANGENT_LONG=-0012000000<10-6degE>\n",
-        "STOP_TANGENT_LAT=+0046000000<10-6degN>\n",
-        "STOP_TANGENT_LONG=-0012500000<10-6degE>\n",
-        "                                                  \n",
-        "OCC_DURATION=+00050<10-2s>\n",
-        "SAMP_DURATION=+00500<10-3s>\n",
-        "NUM_MEASURE=+00001\n",
-        "INS_STATUS=0\n",
-        "OCC_NUM=+001\n",
-        "STAR=Sirius       \n",
-        "STAR_ID=+00001\n",
-        "STAR_MAG=-01440<10-3>\n",
-        "STAR_TEMP=+0000110000<10-1K>\n",
-        "STAR_DIRECT1=+1.01287155E+02-1.67161159E+01<deg>\n",
-        "STAR_DIRECT2=+1.00000000E+00+0.00000000E+00+0.00000000E+00\n",
-        "BRIGHT_LIMB=0\n",
-        "NUM_LV2PROC=+00001\n",
-        "                               \n",
-        "REF_WAVELENGTH=+0000500000<10-3nm>\n",
-        "TIME_SHIFT=+00250<10-3s>\n",
+        OCCULTATION_LINES,
+        LEVEL_2_LINES,
         "TURB_START=-00001\n",
         "TURB_SIZE=+00000\n",
         "CC_WIND_LENGTH=+1.50000000E+02<m>\n",
         "                                                  \n",
-    ),
-    entries: &[
+    ],
+    sets: &[
         (b'G', "NL_SUMMARY_QUALITY", 1, 153),
         (b'M', "NL_LOCAL_SPECIES_DENSITY", 1, 81),
         (b'M', "NL_TANGENT_LINE_DENSITY", 1, 81),
@@ -62,141 +107,71 @@ const GOM_NL_2P: Facts = Facts {
         (b'M', "NL_HIGH_RES_TEMPERATURE", 1, 253),
         (b'A', "NL_GEOLOCATION", 1, 94),
         (b'A', "NL_ACCURACY_ESTIMATION", 1, 671),
-        (b'R', "LEVEL-1B_PRODUCT", 0, 0),
-        (b'R', "INST_PHYS_CHARACTERISTICS", 0, 0),
-        (b'R', "LEVEL-2_PROC_CONFIG", 0, 0),
-        (b'R', "CROSS_SECTIONS_FILE", 0, 0),
-        (b' ', "", 0, 0),
     ],
+    references: LEVEL_2_REFERENCES,
+    spares: 1,
 };
 
 const GOM_RR_2P: Facts = Facts {
     product: "GOM_RR__2P",
-    sph_lines: concat!(
+    sph_lines: &[
         "SPH_DESCRIPTOR=\"GOMOS EXTRACTED PROFILES    \"\n",
         "                                                   \n",
-    ),
-    entries: &[
+    ],
+    sets: &[
         (b'M', "RR_LOCAL_SPECIES_DENSITY", 1, 81),
         (b'A', "RR_GEOLOCATION", 1, 94),
         (b'M', "RR_HIGH_RES_TEMPERATURE", 1, 253),
-        (b'R', "LEVEL-1B_PRODUCT", 0, 0),
     ],
+    references: &["LEVEL-1B_PRODUCT"],
+    spares: 0,
 };
 
 const GOM_EXT_2P: Facts = Facts {
     product: "GOM_EXT_2P",
-    sph_lines: concat!(
+    sph_lines: &[
         "SPH_DESCRIPTOR=\"GOMOS RESIDUAL EXTINCTION   \"\n",
-        "START_TIME=\"01-JAN-2000 00:00:00.000000\"\n",
-        "STOP_TIME=\"01-JAN-2000 00:00:00.000000\"\n",
-        "START_TANGENT_LAT=+0045000000<10-6degN>\n",
-        "START_TANGENT_LONG=-0012000000<10-6degE>\n",
-        "STOP_TANGENT_LAT=+0046000000<10-6degN>\n",
-        "STOP_TANGENT_LONG=-0012500000<10-6degE>\n",
-        "                                                  \n",
-        "OCC_DURATION=+00050<10-2s>\n",
-        "SAMP_DURATION=+00500<10-3s>\n",
-        "NUM_MEASURE=+00001\n",
-        "INS_STATUS=0\n",
-        "OCC_NUM=+001\n",
-        "STAR=Sirius       \n",
-        "STAR_ID=+00001\n",
-        "STAR_MAG=-01440<10-3>\n",
-        "STAR_TEMP=+0000110000<10-1K>\n",
-        "STAR_DIRECT1=+1.01287155E+02-1.67161159E+01<deg>\n",
-        "STAR_DIRECT2=+1.00000000E+00+0.00000000E+00+0.00000000E+00\n",
-        "BRIGHT_LIMB=0\n",
-        "NUM_LV2PROC=+00001\n",
-        "                               \n",
-        "REF_WAVELENGTH=+0000500000<10-3nm>\n",
-        "TIME_SHIFT=+00250<10-3s>\n",
+        OCCULTATION_LINES,
+        LEVEL_2_LINES,
         "MEAN_WAVELENGTH=+0000495000<10-3nm>\n",
         "                                                  \n",
-    ),
-    entries: &[
+    ],
+    sets: &[
         (b'G', "EXT_SUMMARY_QUALITY", 1, 153),
         (b'G', "EXT_NOM_WAV_ASSIGNMENT", 1, 9408),
         (b'M', "EXT_MDS", 1, 25709),
         (b'A', "EXT_ADS", 1, 4733),
-        (b'R', "LEVEL-1B_PRODUCT", 0, 0),
-        (b'R', "INST_PHYS_CHARACTERISTICS", 0, 0),
-        (b'R', "LEVEL-2_PROC_CONFIG", 0, 0),
-        (b'R', "CROSS_SECTIONS_FILE", 0, 0),
-        (b' ', "", 0, 0),
     ],
+    references: LEVEL_2_REFERENCES,
+    spares: 1,
 };
 
 const GOM_LIM_1P: Facts = Facts {
     product: "GOM_LIM_1P",
-    sph_lines: concat!(
+    sph_lines: &[
         "SPH_DESCRIPTOR=\"GOMOS LIMB                  \"\n",
-        "START_TIME=\"01-JAN-2000 00:00:00.000000\"\n",
-        "STOP_TIME=\"01-JAN-2000 00:00:00.000000\"\n",
-        "START_TANGENT_LAT=+0045000000<10-6degN>\n",
-        "START_TANGENT_LONG=-0012000000<10-6degE>\n",
-        "STOP_TANGENT_LAT=+0046000000<10-6degN>\n",
-        "STOP_TANGENT_LONG=-0012500000<10-6degE>\n",
+        OCCULTATION_LINES,
         "                                                  \n",
-        "OCC_DURATION=+00050<10-2s>\n",
-        "SAMP_DURATION=+00500<10-3s>\n",
-        "NUM_MEASURE=+00001\n",
-        "INS_STATUS=0\n",
-        "OCC_NUM=+001\n",
-        "STAR=Sirius       \n",
-        "STAR_ID=+00001\n",
-        "STAR_MAG=-01440<10-3>\n",
-        "STAR_TEMP=+0000110000<10-1K>\n",
-        "STAR_DIRECT1=+1.01287155E+02-1.67161159E+01<deg>\n",
-        "STAR_DIRECT2=+1.00000000E+00+0.00000000E+00+0.00000000E+00\n",
-        "BRIGHT_LIMB=0\n",
-        "                                                  \n",
-    ),
-    entries: &[
+    ],
+    sets: &[
         (b'G', "LIM_SUMMARY_QUALITY", 1, 76),
         (b'G', "LIM_OCCULTATION_DATA", 1, 1053),
         (b'G', "LIM_NOM_WAV_ASSIGNMENT", 1, 9408),
         (b'M', "LIM_MDS", 1, 28045),
         (b'A', "LIM_ADS", 1, 133),
-        (b'R', "LEVEL_0_PRODUCT", 0, 0),
-        (b'R', "INST_PHYS_CHARACTERISTICS", 0, 0),
-        (b'R', "CALIBRATION_DATABASE", 0, 0),
-        (b'R', "LEVEL-1B_PROC_CONFIG", 0, 0),
-        (b'R', "STAR_CATALOGUE", 0, 0),
-        (b'R', "STELLAR_SPECTRA_DATABANK", 0, 0),
-        (b'R', "ECMWF_FILE", 0, 0),
-        (b'R', "OPTIONAL_ECMWF_FILE", 0, 0),
-        (b'R', "ORBIT_DATA_FILE", 0, 0),
-        (b'R', "ATTITUDE_FILE", 0, 0),
     ],
+    references: LEVEL_1B_REFERENCES,
+    spares: 0,
 };
 
 const GOM_TRA_1P: Facts = Facts {
     product: "GOM_TRA_1P",
-    sph_lines: concat!(
+    sph_lines: &[
         "SPH_DESCRIPTOR=\"GOMOS LEVEL 1B              \"\n",
-        "START_TIME=\"01-JAN-2000 00:00:00.000000\"\n",
-        "STOP_TIME=\"01-JAN-2000 00:00:00.000000\"\n",
-        "START_TANGENT_LAT=+0045000000<10-6degN>\n",
-        "START_TANGENT_LONG=-0012000000<10-6degE>\n",
-        "STOP_TANGENT_LAT=+0046000000<10-6degN>\n",
-        "STOP_TANGENT_LONG=-0012500000<10-6degE>\n",
+        OCCULTATION_LINES,
         "                                                  \n",
-        "OCC_DURATION=+00050<10-2s>\n",
-        "SAMP_DURATION=+00500<10-3s>\n",
-        "NUM_MEASURE=+00001\n",
-        "INS_STATUS=0\n",
-        "OCC_NUM=+001\n",
-        "STAR=Sirius       \n",
-        "STAR_ID=+00001\n",
-        "STAR_MAG=-01440<10-3>\n",
-        "STAR_TEMP=+0000110000<10-1K>\n",
-        "STAR_DIRECT1=+1.01287155E+02-1.67161159E+01<deg>\n",
-        "STAR_DIRECT2=+1.00000000E+00+0.00000000E+00+0.00000000E+00\n",
-        "BRIGHT_LIMB=0\n",
-        "                                                  \n",
-    ),
-    entries: &[
+    ],
+    sets: &[
         (b'G', "TRA_SUMMARY_QUALITY", 1, 76),
         (b'G', "TRA_OCCULTATION_DATA", 1, 16200),
         (b'G', "TRA_NOM_WAV_ASSIGNMENT", 1, 9408),
@@ -206,66 +181,40 @@ const GOM_TRA_1P: Facts = Facts {
         (b'M', "TRA_SATU_AND_SFA_DATA", 1, 453),
         (b'A', "TRA_AUXILIARY_DATA", 1, 4725),
         (b'A', "TRA_GEOLOCATION", 2, 2585),
-        (b'R', "LEVEL_0_PRODUCT", 0, 0),
-        (b'R', "INST_PHYS_CHARACTERISTICS", 0, 0),
-        (b'R', "CALIBRATION_DATABASE", 0, 0),
-        (b'R', "LEVEL-1B_PROC_CONFIG", 0, 0),
-        (b'R', "STAR_CATALOGUE", 0, 0),
-        (b'R', "STELLAR_SPECTRA_DATABANK", 0, 0),
-        (b'R', "ECMWF_FILE", 0, 0),
-        (b'R', "OPTIONAL_ECMWF_FILE", 0, 0),
-        (b'R', "ORBIT_DATA_FILE", 0, 0),
-        (b'R', "ATTITUDE_FILE", 0, 0),
     ],
+    references: LEVEL_1B_REFERENCES,
+    spares: 0,
 };
 
 const GOM_PR1_AX: Facts = Facts {
     product: "GOM_PR1_AX",
-    sph_lines: concat!(
+    sph_lines: &[
         "SPH_DESCRIPTOR=\"GOMOS LEVEL 1B CONFIG       \"\n",
         "                                                   \n",
-    ),
-    entries: &[(b'G', "PR1_GENERAL", 1, 346), (b'G', "PR1_ATMOSPHERE", 1, 244)],
+    ],
+    sets: &[(b'G', "PR1_GENERAL", 1, 346), (b'G', "PR1_ATMOSPHERE", 1, 244)],
+    references: &[],
+    spares: 0,
 };
 
 const SCI_RV_2P: Facts = Facts {
     product: "SCI_RV__2P",
-    sph_lines: concat!(
+    sph_lines: &[
         "SPH_DESCRIPTOR=\"SCI_RV__2P SPECIFIC HEADER  \"\n",
-        "STRIPLINE_CONTINUITY_INDICATOR=+000\n",
-        "SLICE_POSITION=+001\n",
-        "NUM_SLICES=+001\n",
-        "START_TIME=\"27-JUN-2007 10:00:00.000000\"\n",
-        "STOP_TIME=\"27-JUN-2007 11:40:00.000000\"\n",
-        "START_LAT=+0045000000<10-6degN>\n",
-        "START_LONG=-0012500000<10-6degE>\n",
-        "STOP_LAT=-0030000000<10-6degN>\n",
-        "STOP_LONG=+0179999999<10-6degE>\n",
-        "                                                  \n",
+        SLICE_LINES,
         "FITTING_ERROR_SUM=\"GOOD\"\n",
         "DOAS_FITTING_WINDOW_0=\" 325- 335\"\n",
-    ),
-    entries: &[
-        (b'A', "GEOLOCATION", 5, 47),
-        (b'M', "O3_VERTICAL_COLUMN", 5, 23),
-        (b'R', "SCI_NL__2P", 0, 0),
     ],
+    sets: &[(b'A', "GEOLOCATION", 5, 47), (b'M', "O3_VERTICAL_COLUMN", 5, 23)],
+    references: &["SCI_NL__2P"],
+    spares: 0,
 };
 
 const SCI_NL_1P: Facts = Facts {
     product: "SCI_NL__1P",
-    sph_lines: concat!(
+    sph_lines: &[
         "SPH_DESCRIPTOR=\"SCI_NL__1P SPECIFIC HEADER  \"\n",
-        "STRIPLINE_CONTINUITY_INDICATOR=+000\n",
-        "SLICE_POSITION=+001\n",
-        "NUM_SLICES=+001\n",
-        "START_TIME=\"27-JUN-2007 10:00:00.000000\"\n",
-        "STOP_TIME=\"27-JUN-2007 11:40:00.000000\"\n",
-        "START_LAT=+0045000000<10-6degN>\n",
-        "START_LONG=-0012500000<10-6degE>\n",
-        "STOP_LAT=-0030000000<10-6degN>\n",
-        "STOP_LONG=+0179999999<10-6degE>\n",
-        "                                                  \n",
+        SLICE_LINES,
         "KEY_DATA_VERSION=\"01.25\"\n",
         "M_FACTOR_VERSION=\"01.25\"\n",
         "SPECTRAL_CAL_CHECK_SUM=\"GOOD\"\n",
@@ -280,8 +229,8 @@ const SCI_NL_1P: Facts = Facts {
         "COMP_DARK_STATES=    \n",
         "INCOMP_DARK_STATES=    \n",
         "    \n",
-    ),
-    entries: &[
+    ],
+    sets: &[
         (b'A', "SUMMARY_QUALITY", 7, 182),
         (b'A', "GEOLOCATION", 7, 45),
         (b'G', "INSTRUMENT_PARAMS", 1, 382),
@@ -312,49 +261,54 @@ const SCI_NL_1P: Facts = Facts {
         (b'M', "LIMB", 0, 0),
         (b'M', "OCCULTATION", 0, 0),
         (b'M', "MONITORING", 0, 0),
-        (b'R', "LEVEL_0_PRODUCT", 0, 0),
-        (b'R', "LEAKAGE_FILE", 0, 0),
-        (b'R', "PPG_ETALON_FILE", 0, 0),
-        (b'R', "SPECTRAL_FILE", 0, 0),
-        (b'R', "SUN_REF_FILE", 0, 0),
-        (b'R', "KEY_DATA_FILE", 0, 0),
-        (b'R', "M_FACTOR_FILE", 0, 0),
-        (b'R', "INIT_FILE", 0, 0),
-        (b'R', "ORBIT_FILE", 0, 0),
-        (b'R', "ATTITUDE_FILE", 0, 0),
-        (b' ', "", 0, 0),
     ],
+    references: &[
+        "LEVEL_0_PRODUCT",
+        "LEAKAGE_FILE",
+        "PPG_ETALON_FILE",
+        "SPECTRAL_FILE",
+        "SUN_REF_FILE",
+        "KEY_DATA_FILE",
+        "M_FACTOR_FILE",
+        "INIT_FILE",
+        "ORBIT_FILE",
+        "ATTITUDE_FILE",
+    ],
+    spares: 1,
 };
 
 /// The states of the SCI_NL__1P built here.
-const STATES: [(u8, u8, u16, u32); 7] = [
-    (0, 1, 3, 40),
-    (0, 2, 2, 55),
-    (1, 1, 7, 99),
-    (0, 1, 2, 25),
-    (0, 3, 1, 60),
-    (0, 4, 2, 33),
-    (0, 2, 0, 0),
+const STATES: [StateDescription; 7] = [
+    StateDescription::new(0, 1, 3, 40),
+    StateDescription::new(0, 2, 2, 55),
+    StateDescription::new(1, 1, 7, 99),
+    StateDescription::new(0, 1, 2, 25),
+    StateDescription::new(0, 3, 1, 60),
+    StateDescription::new(0, 4, 2, 33),
+    StateDescription::new(0, 2, 0, 0),
 ];
 
-fn described(facts: &Facts) -> Description {
-    let mut description = Description::new(Vec::new());
-    for &(set_type, name, count, record_size) in facts.entries {
-        let mut entry = match set_type {
-            b' ' => EntryDescription::spare(),
-            _ => EntryDescription::records(set_type, name, count, record_size),
-        };
-        if count == 0 && matches!(set_type, b'M' | b'A' | b'G') {
-            entry.filename = b"NOT USED".to_vec();
-            entry.record_size = Some(Number::from(0));
-        } else if set_type == b'R' {
-            entry.filename = b"MISSING".to_vec();
-        } else {
-            entry.filename = b"ATTACHED".to_vec();
-        }
-        description.entries.push(entry);
+/// An entry of the catalogue: empty sets are not used, R entries name a file that is missing.
+fn described_entry(set_type: u8, name: &str, count: usize, record_size: usize) -> EntryDescription {
+    let mut entry = EntryDescription::records(set_type, name, count, record_size);
+    if set_type == b'R' {
+        entry.filename = b"MISSING".to_vec();
+    } else if count == 0 {
+        entry.filename = b"NOT USED".to_vec();
+        entry.record_size = Some(Number::from(0));
+    } else {
+        entry.filename = b"ATTACHED".to_vec();
     }
-    description.sph_lines = facts.sph_lines.into();
+    entry
+}
+
+fn described(facts: &Facts) -> Description {
+    let sets = facts.sets.iter();
+    let sets = sets.map(|&(set_type, name, count, size)| described_entry(set_type, name, count, size));
+    let references = facts.references.iter().map(|name| described_entry(b'R', name, 0, 0));
+    let spares = std::iter::repeat_with(EntryDescription::spare).take(facts.spares);
+    let mut description = Description::new(sets.chain(references).chain(spares).collect());
+    description.sph_lines = facts.sph_lines.concat().into_bytes();
     describe_header(&mut description, facts.product);
     description
 }
@@ -380,15 +334,11 @@ fn describe_header(description: &mut Description, product: &str) {
 }
 
 /// Puts the states and the four variable sets they describe into a SCI_NL__1P.
-fn attach_states(description: &mut Description) {
-    let states = STATES.map(|(flag, kind, count, length)| {
-        state_record(StateDescription { flag, kind, count, length })
-    });
+fn attach_states(description: &mut Description, states: &[StateDescription]) {
     for entry in &mut description.entries {
         let kind = match entry.name.as_slice() {
             b"STATES" => {
-                *entry = EntryDescription::records(b'A', "STATES", states.len(), 1387);
-                entry.data = states.concat();
+                *entry = EntryDescription::states(states);
                 continue;
             }
             b"NADIR" => 1,
@@ -397,13 +347,8 @@ fn attach_states(description: &mut Description) {
             b"MONITORING" => 4,
             _ => continue,
         };
-        let attached = STATES.iter().filter(|state| state.0 == 0 && state.1 == kind);
-        let (count, size) = attached.fold((0, 0), |(count, size), state| {
-            let records = usize::from(state.2);
-            (count + records, size + records * state.3 as usize)
-        });
         let name = String::from_utf8_lossy(&entry.name).into_owned();
-        *entry = EntryDescription::variable(&name, count, size);
+        *entry = EntryDescription::filled_by(states, kind, &name);
     }
 }
 
@@ -439,7 +384,15 @@ pub(super) fn catalogue_description(name: &str) -> Option<Description> {
     ];
     let facts = all.into_iter().find(|facts| facts.product == name)?;
     let mut description = described(facts);
-    attach_states(&mut description);
+    attach_states(&mut description, &STATES);
     trace_rays(&mut description);
     Some(description)
+}
+
+/// A SCI_NL__1P with 1,000 states: the built ones' again and again.
+pub(super) fn thousand_states() -> Description {
+    let states: Vec<StateDescription> = STATES.iter().copied().cycle().take(1000).collect();
+    let mut description = described(&SCI_NL_1P);
+    attach_states(&mut description, &states);
+    description
 }

@@ -84,6 +84,25 @@ impl EntryDescription {
         entry
     }
 
+    /// The entry STATES with these state records.
+    pub fn states(list: &[StateDescription]) -> EntryDescription {
+        let mut entry = EntryDescription::new(b'A', "STATES", Vec::new());
+        entry.data = list.iter().flat_map(|&state| state_record(state)).collect();
+        entry.count = Some(Number::from(list.len() as i128));
+        entry.record_size = Some(Number::from(1387));
+        entry
+    }
+
+    /// The variable set of a kind that these states fill, and its number of records; empty if they attach none.
+    pub fn filled_by(list: &[StateDescription], kind: u8, name: &str) -> EntryDescription {
+        let attached = list.iter().filter(|state| state.flag == 0 && state.kind == kind);
+        let (count, size) = attached.fold((0, 0), |(count, size), state| {
+            let records = usize::from(state.count);
+            (count + records, size + records * state.length as usize)
+        });
+        EntryDescription::variable(name, count, size)
+    }
+
     pub fn at(mut self, offset: i128) -> EntryDescription {
         self.offset = Some(Number::from(offset));
         self
@@ -206,6 +225,12 @@ pub struct StateDescription {
     pub kind: u8,
     pub count: u16,
     pub length: u32,
+}
+
+impl StateDescription {
+    pub const fn new(flag: u8, kind: u8, count: u16, length: u32) -> StateDescription {
+        StateDescription { flag, kind, count, length }
+    }
 }
 
 /// A state record: flag at 12, kind at 1116, count at 1381, length at 1383, a pattern elsewhere.

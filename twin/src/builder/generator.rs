@@ -1,8 +1,6 @@
 //! Good products at random, from a seed: the same seed gives the same products.
 
-use super::description::{
-    state_record, Description, EntryDescription, Number, Setting, StateDescription,
-};
+use super::description::{Description, EntryDescription, Number, Setting, StateDescription};
 
 const TEXT_KEYWORDS: [&str; 12] = [
     "PRODUCT",
@@ -216,19 +214,13 @@ impl Generator {
     /// STATES and the variable sets of every kind it attaches records of; none if it attaches none.
     fn variable_entries(&mut self) -> Vec<EntryDescription> {
         let list: Vec<StateDescription> = (0..1 + self.index(3)).map(|_| self.state()).collect();
-        let mut states = EntryDescription::records(b'A', "STATES", list.len(), 1387);
-        states.data = list.iter().flat_map(|&state| state_record(state)).collect();
-        let mut entries = vec![states];
+        let mut entries = vec![EntryDescription::states(&list)];
         for (kind, name) in (1..).zip(VARIABLE_NAMES) {
-            let attached = list.iter().filter(|state| state.flag == 0 && state.kind == kind);
-            let (count, size) = attached.fold((0, 0), |(count, size), state| {
-                let records = usize::from(state.count);
-                (count + records, size + records * state.length as usize)
-            });
+            let set = EntryDescription::filled_by(&list, kind, name);
             let sets = if self.once_in(6) { 2 } else { 1 };
-            for _ in 0..if size > 0 { sets } else { 0 } {
-                let mut entry = EntryDescription::variable(name, count, size);
-                entry.data = self.bytes(size);
+            for _ in 0..if set.data.is_empty() { 0 } else { sets } {
+                let mut entry = set.clone();
+                entry.data = self.bytes(entry.data.len());
                 entries.push(entry);
             }
         }

@@ -1,8 +1,8 @@
 //! Products by name: the cases of document 01, one product for each refusal, sharp corners, and the
 //! products of the catalogue, each with what the reader answers.
 
-use super::catalogue::{catalogue_description, CATALOGUE_NAMES};
-use super::description::{state_record, Description, EntryDescription, Number, StateDescription};
+use super::catalogue::{catalogue_description, thousand_states, CATALOGUE_NAMES};
+use super::description::{Description, EntryDescription, Number, StateDescription};
 use crate::refusal::{Verdict, NO_ENTRY};
 
 /// What is asked of a named product.
@@ -44,7 +44,7 @@ const LARGEST: u64 = i64::MAX as u64;
 const TOO_LARGE: Number = Number { minus: false, magnitude: 1 << 63 };
 
 /// The named products but those of [`CATALOGUE_NAMES`], which are all accepted, and `wrapping-states`.
-pub const NAMED_PRODUCTS: [NamedProduct; 49] = [
+pub const NAMED_PRODUCTS: [NamedProduct; 54] = [
     accepted("case-a", case_a),
     accepted("case-b", case_b),
     refused("case-c", case_c, (12, 1526, 0)),
@@ -101,6 +101,11 @@ pub const NAMED_PRODUCTS: [NamedProduct; 49] = [
     refused("two-overlaps", two_overlaps, (13, 2382, 2)),
     refused("set-within-set", set_within_set, (13, 1812, 1)),
     refused("printed-sph-size", printed_sph_size, (6, 1140, NO_ENTRY)),
+    refused("SCI_NL__1P-damaged", damaged_count, (16, 28_407, 26)),
+    accepted("states-1000", || thousand_states().build()),
+    accepted("spares-128", || Description::new(vec![EntryDescription::spare(); 128]).build()),
+    accepted("sph-long-lines", || lines_of(1024).build()),
+    accepted("sph-short-lines", || lines_of(4).build()),
     refused("listed-last", || long_product(65_536), (14, 1247, NO_ENTRY)),
     refused("listed-no-more", || long_product(65_537), (14, 1247, NO_ENTRY)),
 ];
@@ -205,6 +210,22 @@ fn long_sph(size: usize) -> Description {
     Description { sph_lines, ..Description::default() }
 }
 
+/// 49,152 bytes of SPH lines of one length, which divides that: the value is text, or 1 in the shortest.
+fn lines_of(length: usize) -> Description {
+    let text = (b'0'..=b'~').cycle().skip(1).take(length - 3).collect();
+    let line = [b"A=".to_vec(), text, b"\n".to_vec()].concat();
+    Description { sph_lines: line.repeat(49_152 / length), ..Description::default() }
+}
+
+/// A SCI_NL__1P whose first state says one nadir record more than there is.
+fn damaged_count() -> Vec<u8> {
+    let mut description = catalogue_description("SCI_NL__1P").unwrap_or_default();
+    for entry in description.entries.iter_mut().filter(|entry| entry.name == b"STATES") {
+        entry.data[1382] += 1;
+    }
+    description.build()
+}
+
 fn long_product(length: usize) -> Vec<u8> {
     Description { after: vec![7; length - 1247], ..Description::default() }.build()
 }
@@ -234,30 +255,21 @@ fn states_empty() -> Vec<u8> {
     Description::new(vec![states, EntryDescription::variable("NADIR", 1, 5)]).build()
 }
 
-fn states(list: &[(u8, u8, u16, u32)]) -> EntryDescription {
-    let mut entry = EntryDescription::records(b'A', "STATES", list.len(), 1387);
-    let record = |&(flag, kind, count, length): &(u8, u8, u16, u32)| {
-        state_record(StateDescription { flag, kind, count, length })
-    };
-    entry.data = list.iter().flat_map(record).collect();
-    entry
-}
-
 /// Five nadir records of 7, 7, 4, 4 and 9 bytes, three limb records of 6, 6 and 2; the sets stand
 /// before the states in the file and NADIR is there twice.
 fn unequal_lengths() -> Description {
     let list = [
-        (0, 1, 2, 7),
-        (0, 2, 2, 6),
-        (1, 1, 3, 50),
-        (0, 1, 2, 4),
-        (1, 9, 3, 0),
-        (0, 2, 1, 2),
-        (0, 1, 1, 9),
-        (0, 4, 0, 0),
+        StateDescription::new(0, 1, 2, 7),
+        StateDescription::new(0, 2, 2, 6),
+        StateDescription::new(1, 1, 3, 50),
+        StateDescription::new(0, 1, 2, 4),
+        StateDescription::new(1, 9, 3, 0),
+        StateDescription::new(0, 2, 1, 2),
+        StateDescription::new(0, 1, 1, 9),
+        StateDescription::new(0, 4, 0, 0),
     ];
     let mut description = Description::new(vec![
-        states(&list),
+        EntryDescription::states(&list),
         EntryDescription::variable("NADIR", 5, 31),
         EntryDescription::variable("NADIR", 5, 31),
         EntryDescription::variable("LIMB", 3, 14),
@@ -340,8 +352,9 @@ fn printed_sph_size() -> Vec<u8> {
 /// 65,539 states whose records have 2^64 + 5 bytes together, beside a set of 5 bytes: 90,904,405 bytes.
 /// Refused 16 at the set's DS_OFFSET, entry 0.
 pub fn wrapping_states() -> Vec<u8> {
-    let mut list = vec![(0, 1, u16::MAX, u32::MAX); 65_537];
-    list.extend([(0, 1, 2, u32::MAX), (0, 1, 1, 6)]);
-    let count = list.iter().map(|state| usize::from(state.2)).sum();
-    Description::new(vec![EntryDescription::variable("NADIR", count, 5), states(&list)]).build()
+    let mut list = vec![StateDescription::new(0, 1, u16::MAX, u32::MAX); 65_537];
+    list.extend([StateDescription::new(0, 1, 2, u32::MAX), StateDescription::new(0, 1, 1, 6)]);
+    let count = list.iter().map(|state| usize::from(state.count)).sum();
+    let nadir = EntryDescription::variable("NADIR", count, 5);
+    Description::new(vec![nadir, EntryDescription::states(&list)]).build()
 }

@@ -11,3 +11,5 @@ mod rule_by_rule;
 mod sets;
 mod sph_lines;
 mod states;
+mod stored;
+mod words;

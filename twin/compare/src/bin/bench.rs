@@ -1,0 +1,125 @@
+//! Times judge and directory through the library and in the twin, on the same products in one run, and prints a
+//! table: the best of many rounds for each, which alternate, with product and rooms warm.
+
+use std::hint::black_box;
+use std::time::{Duration, Instant};
+
+use compare::{library, Comparer};
+use twin::builder::named_product;
+use twin::words::{Call, DIRECTORY_TEXTS, DIRECTORY_WORDS, VERDICT_WORDS};
+
+/// Rounds of each reader, and how long one round should take.
+const ROUNDS: usize = 60;
+const ROUND: Duration = Duration::from_millis(2);
+
+/// The products by their names, and what the table calls them.
+const PRODUCTS: [(&str, &str); 8] = [
+    ("case-a", "main header alone (case A)"),
+    ("states-1000", "41 entries, 1,000 states"),
+    ("descriptors-128", "128 entries of one byte"),
+    ("spares-128", "128 spares"),
+    ("sph-49152", "49,152 bytes of SPH: one blank line"),
+    ("sph-long-lines", "49,152 bytes of SPH: long lines"),
+    ("sph-short-lines", "49,152 bytes of SPH: A=1"),
+    ("GOM_EXT_2P", "GOMOS EXT"),
+];
+
+/// The rooms of the library's answers.
+struct Rooms {
+    words: [u64; DIRECTORY_WORDS],
+    texts: [u8; DIRECTORY_TEXTS],
+}
+
+/// The best time of one run of each, in nanoseconds: ours, then the twin's.
+fn best_of_both(mut ours: impl FnMut(), mut twins: impl FnMut()) -> [f64; 2] {
+    let runs = [runs_in_a_round(&mut ours), runs_in_a_round(&mut twins)];
+    let mut best = [f64::INFINITY; 2];
+    for _ in 0..ROUNDS {
+        best[0] = best[0].min(time_of_one(&mut ours, runs[0]));
+        best[1] = best[1].min(time_of_one(&mut twins, runs[1]));
+    }
+    best
+}
+
+/// How many runs take about a round; running them warms product and rooms.
+fn runs_in_a_round(run: &mut impl FnMut()) -> u32 {
+    let mut runs = 1;
+    loop {
+        let start = Instant::now();
+        (0..runs).for_each(|_| run());
+        if start.elapsed() >= ROUND {
+            return runs;
+        }
+        runs *= 2;
+    }
+}
+
+fn time_of_one(run: &mut impl FnMut(), runs: u32) -> f64 {
+    let start = Instant::now();
+    (0..runs).for_each(|_| run());
+    start.elapsed().as_secs_f64() * 1e9 / f64::from(runs)
+}
+
+fn time_judge(product: &[u8], rooms: &mut Rooms) -> [f64; 2] {
+    let words = &mut rooms.words[..VERDICT_WORDS];
+    let ours = || {
+        let returned = library::judge(black_box(product), words);
+        assert_eq!(returned, library::WRITTEN);
+        black_box(&mut *words);
+    };
+    let twins = || {
+        black_box(twin::judge(black_box(product)));
+    };
+    best_of_both(ours, twins)
+}
+
+fn time_directory(product: &[u8], rooms: &mut Rooms) -> [f64; 2] {
+    let ours = || {
+        let returned = library::open_directory(black_box(product), &mut rooms.words, &mut rooms.texts);
+        assert_eq!(returned, library::WRITTEN);
+        black_box(&mut *rooms);
+    };
+    let twins = || {
+        black_box(&twin::directory(black_box(product)));
+    };
+    best_of_both(ours, twins)
+}
+
+/// The release profile of the twin's workspace, as its Cargo.toml says it.
+fn release_profile() -> String {
+    let manifest = include_str!("../../../Cargo.toml");
+    let lines = manifest.lines().skip_while(|line| *line != "[profile.release]").skip(1);
+    lines.take_while(|line| !line.is_empty()).collect::<Vec<_>>().join(", ")
+}
+
+fn print_compilers() {
+    let stated = |text: &'static str| if text.is_empty() { "none" } else { text };
+    println!("twin:     {}", env!("COMPARE_COMPILER"));
+    println!("          profile {}: {}", env!("COMPARE_PROFILE"), release_profile());
+    println!("          opt-level as built: {}", env!("COMPARE_OPTIMIZED"));
+    println!("          other flags: {}", stated(env!("COMPARE_FLAGS")));
+    println!("          target features: {}", stated(env!("COMPARE_FEATURES")));
+    println!("library:  libhost.a, built by `rt staticlib host` (LLVM -O3 unless told otherwise)");
+    println!("each time: the best of {ROUNDS} rounds of about {ROUND:?}, alternating, all warm");
+    println!();
+}
+
+fn main() {
+    print_compilers();
+    let mut rooms = Rooms { words: [0; DIRECTORY_WORDS], texts: [0; DIRECTORY_TEXTS] };
+    println!(
+        "{:<10} {:<36} {:>10} {:>10} {:>10}",
+        "call", "product", "ours/ns", "twin/ns", "ours/twin"
+    );
+    for (name, title) in PRODUCTS {
+        let product = named_product(name).expect(name);
+        let verdict = Comparer::of(name).compare(&product, Call::Judge);
+        assert_eq!(verdict.words, [0, 0, 0], "{name} is not accepted");
+        for (call, [ours, twins]) in [
+            ("judge", time_judge(&product, &mut rooms)),
+            ("directory", time_directory(&product, &mut rooms)),
+        ] {
+            println!("{call:<10} {title:<36} {ours:>10.0} {twins:>10.0} {:>10.2}", ours / twins);
+        }
+    }
+}

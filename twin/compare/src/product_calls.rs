@@ -1,0 +1,122 @@
+//! Every public call on one product: the whole-product calls, records, fields and points of each entry, and
+//! what is not there.
+
+use twin::builder::Generator;
+use twin::words::{entry_words, Answer, Call};
+
+use crate::comparing::Comparer;
+
+/// The first byte behind the main header.
+const MAIN_HEADER_END: u64 = 1247;
+/// Where SPH_SIZE stands in the words of the header values.
+const SPH_SIZE_WORD: usize = 21;
+
+/// Entries and records that are in no product.
+const FAR: [usize; 3] = [128, 1 << 32, usize::MAX];
+
+impl Comparer {
+    /// Every public call, with every record of an accepted product; its joined records behind the headers are
+    /// the product.
+    pub fn compare_all(&mut self, product: &[u8], choices: &mut Generator) {
+        let directory = self.compare_whole(product, choices);
+        if directory.words[0] != 0 {
+            return;
+        }
+        let sph_size = Call::HeaderValues.answer(product).words[SPH_SIZE_WORD];
+        let mut joined = Vec::with_capacity(product.len());
+        for entry in in_file_order(&directory) {
+            for record in 0..count_of(&directory, entry) {
+                joined.extend(self.compare_record(product, entry, record, choices));
+            }
+        }
+        for entry in 0..directory.words[3] as usize {
+            let record = count_of(&directory, entry);
+            self.compare(product, Call::RecordPlace { entry, record });
+            self.compare(product, Call::RecordPart { entry, record });
+        }
+        if joined != product[(MAIN_HEADER_END + sph_size) as usize..] {
+            self.fail_joining(product);
+        }
+    }
+
+    /// Every public call, with the first records of each entry and its last.
+    pub fn compare_some(&mut self, product: &[u8], most_records: usize, choices: &mut Generator) {
+        let directory = self.compare_whole(product, choices);
+        for entry in 0..directory.words[3] as usize {
+            let count = count_of(&directory, entry);
+            for record in 0..count.min(most_records) {
+                self.compare_record(product, entry, record, choices);
+            }
+            if count > most_records {
+                self.compare_record(product, entry, count - 1, choices);
+            }
+        }
+    }
+
+    /// The calls on the product as a whole, and on records that are not there.
+    fn compare_whole(&mut self, product: &[u8], choices: &mut Generator) -> Answer {
+        for call in [Call::Judge, Call::HeaderValues, Call::SphPlace, Call::SphPart] {
+            self.compare(product, call);
+        }
+        let directory = self.compare(product, Call::OpenDirectory);
+        let entries = directory.words[3] as usize;
+        let entry = choices.index(entries + 1);
+        let record = if entry < entries { count_of(&directory, entry) } else { 0 };
+        self.compare_refused(product, entry, record, choices);
+        let far = choices.choose(&FAR);
+        let (entry, record) = choices.choose(&[(entries, 0), (far, 0), (entry, far)]);
+        self.compare_refused(product, entry, record, choices);
+        directory
+    }
+
+    /// A record that is not there: no place, no part, and no field or point.
+    fn compare_refused(
+        &mut self,
+        product: &[u8],
+        entry: usize,
+        record: usize,
+        choices: &mut Generator,
+    ) {
+        self.compare(product, Call::RecordPlace { entry, record });
+        self.compare(product, Call::RecordPart { entry, record });
+        let (offset, kind) = (choices.index(20), choices.index(12) as u8);
+        self.compare(product, Call::FieldAt { entry, record, offset, kind });
+        self.compare(product, Call::PointAt { entry, record, offsets: [0, 4, 8] });
+    }
+
+    /// A record: its place and part, and a field or a point; answers its bytes.
+    fn compare_record(
+        &mut self,
+        product: &[u8],
+        entry: usize,
+        record: usize,
+        choices: &mut Generator,
+    ) -> Vec<u8> {
+        self.compare(product, Call::RecordPlace { entry, record });
+        let part = self.compare(product, Call::RecordPart { entry, record });
+        let length = part.bytes.len();
+        if choices.once_in(3) {
+            let room = length.saturating_sub(3);
+            let offsets = [0; 3].map(|_| choices.index(room + 1));
+            self.compare(product, Call::PointAt { entry, record, offsets });
+        } else {
+            let (offset, kind) = (choices.index(length + 2), choices.index(11) as u8);
+            self.compare(product, Call::FieldAt { entry, record, offset, kind });
+        }
+        part.bytes
+    }
+}
+
+/// The number of records of an entry.
+fn count_of(directory: &Answer, entry: usize) -> usize {
+    entry_words(directory, entry)[3] as usize
+}
+
+/// The non-empty sets by where they start.
+fn in_file_order(directory: &Answer) -> Vec<usize> {
+    let entries = 0..directory.words[3] as usize;
+    let filled = entries.filter(|&entry| entry_words(directory, entry)[2] > 0);
+    let mut order: Vec<usize> = filled.collect();
+    order.sort_by_key(|&entry| entry_words(directory, entry)[1]);
+    order
+}

@@ -1,0 +1,12 @@
+//! The library beside the twin, as one program.
+
+mod common;
+mod cuts;
+mod fields;
+mod header_bytes;
+mod longest;
+mod named;
+mod numbers;
+mod points;
+mod random;
+mod short_rooms;

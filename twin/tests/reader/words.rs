@@ -1,0 +1,106 @@
+//! The answers laid out for C: the lengths that the header defines, and words worked out by hand.
+
+use twin::builder::{named_product, Description, EntryDescription, Number};
+use twin::words::{self, Call};
+
+/// The header that the words are laid out by.
+const HEADER: &str = include_str!("../../../include/ambrothel.h");
+
+/// A number that the header defines.
+fn defined(name: &str) -> usize {
+    let start = format!("#define AMBROTHEL_{name} ");
+    let value = HEADER.lines().find_map(|line| line.strip_prefix(&start));
+    value.and_then(|value| value.parse().ok()).unwrap_or_else(|| panic!("the header has no {name}"))
+}
+
+#[test]
+fn lengths_are_those_of_the_header() {
+    for (name, length) in [
+        ("VERDICT_WORDS", words::VERDICT_WORDS),
+        ("PLACE_WORDS", words::PLACE_WORDS),
+        ("PART_WORDS", words::PART_WORDS),
+        ("FIELD_WORDS", words::FIELD_WORDS),
+        ("POINT_WORDS", words::POINT_WORDS),
+        ("POINT_DOUBLES", words::POINT_DOUBLES),
+        ("HEADER_WORDS", words::HEADER_WORDS),
+        ("HEADER_TEXTS", words::HEADER_TEXTS),
+        ("DIRECTORY_WORDS", words::DIRECTORY_WORDS),
+        ("DIRECTORY_TEXTS", words::DIRECTORY_TEXTS),
+    ] {
+        assert_eq!(defined(name), length, "{name}");
+    }
+}
+
+#[test]
+fn answers_have_their_lengths_accepted_or_refused() {
+    let field = Call::FieldAt { entry: 0, record: 0, offset: 0, kind: 1 };
+    let point = Call::PointAt { entry: 0, record: 0, offsets: [0, 4, 8] };
+    for name in ["case-k", "case-l", "case-e", "case-j"] {
+        let product = named_product(name).unwrap();
+        for (call, words, bytes, doubles) in [
+            (Call::Judge, 3, 0, 0),
+            (Call::OpenDirectory, 644, 11_520, 0),
+            (Call::HeaderValues, 25, 289, 0),
+            (Call::SphPlace, 5, 0, 0),
+            (Call::RecordPlace { entry: 0, record: 0 }, 5, 0, 0),
+            (field, 7, 0, 0),
+            (point, 3, 0, 3),
+        ] {
+            let answer = call.answer(&product);
+            let lengths = (answer.words.len(), answer.bytes.len(), answer.double_bits.len());
+            assert_eq!(lengths, (words, bytes, doubles), "{name} {call:?}");
+        }
+    }
+}
+
+/// Every number of the main header is another one, so that no two can be exchanged.
+#[test]
+fn header_values_stand_in_the_order_of_their_lines() {
+    let mut description = Description::new(vec![EntryDescription::spare()]);
+    let free = [
+        "CYCLE",
+        "REL_ORBIT",
+        "ABS_ORBIT",
+        "DELTA_UT1",
+        "X_POSITION",
+        "Y_POSITION",
+        "Z_POSITION",
+        "X_VELOCITY",
+        "Y_VELOCITY",
+        "Z_VELOCITY",
+        "SAT_BINARY_TIME",
+        "CLOCK_STEP",
+        "LEAP_SIGN",
+    ];
+    for (keyword, number) in free.into_iter().zip(5..) {
+        description.set_number(keyword, Number::from(-number));
+    }
+    for (keyword, byte) in [("PROC_STAGE", b'N'), ("PHASE", b'3'), ("LEAP_ERR", b'1')] {
+        description.set_single(keyword, byte);
+    }
+    for (keyword, text) in [("PRODUCT", "FIRST"), ("VECTOR_SOURCE", "FP"), ("LEAP_UTC", "LAST")] {
+        description.set_text(keyword, text);
+    }
+    let answer = Call::HeaderValues.answer(&description.build());
+    assert_eq!(answer.words[..5], [0, 0, 0, 78, 51]);
+    let negative: Vec<i64> = answer.words[5..18].iter().map(|&word| -(word as i64)).collect();
+    assert_eq!(negative, (5..18).collect::<Vec<i64>>());
+    assert_eq!(answer.words[18..], [49, 48, 1527, 280, 1, 280, 0]);
+    for (place, text) in [(0, "FIRST"), (233, "FP"), (262, "LAST")] {
+        assert!(answer.bytes[place..].starts_with(text.as_bytes()), "{text}");
+    }
+}
+
+#[test]
+fn a_directory_stands_array_after_array() {
+    let answer = Call::OpenDirectory.answer(&named_product("unequal-lengths").unwrap());
+    assert_eq!(answer.words[..4], [0, 0, 0, 5]);
+    assert_eq!(words::entry_words(&answer, 2), [u64::from(b'M'), 2661, 31, 5, u64::MAX]);
+    assert_eq!(answer.words[4..10], [65, 77, 77, 77, 77, 0]);
+    assert_eq!(answer.words[132 + 3], 2647);
+    assert_eq!(answer.words[516], 1387);
+    assert!(answer.bytes[3 * 28..].starts_with(b"LIMB    "));
+    assert_eq!(answer.bytes[5 * 28..3584], [0; 123 * 28]);
+    assert_eq!(answer.bytes[3584..3584 + 5 * 62], [b' '; 5 * 62]);
+    assert_eq!(answer.bytes[3584 + 5 * 62..], [0; 123 * 62]);
+}
