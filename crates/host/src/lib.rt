@@ -1,0 +1,206 @@
+// The reader for C and Rust: every public call, its answer written into rooms that the host lends. `include/ambrothel.h` declares them.
+// A room too short for the answer returns 1, and nothing is written.
+use layout::Directory;
+use layout::MainHeader;
+use layout::Verdict;
+use words::put_directory;
+use words::put_directory_texts;
+use words::put_doubles;
+use words::put_field;
+use words::put_header;
+use words::put_header_texts;
+use words::put_place;
+use words::put_point;
+use words::put_verdict;
+use words::put_words;
+use writing::put_text;
+ghost use mathlib.Core.Path.{_≡_};
+ghost use mathlib.Core.List.{[], _∷_};
+ghost use lib.ListN.{length};
+ghost use Rattle.layout.specs.Rules.{verdict};
+ghost use Rattle.layout.specs.Answers.{verdictIs, headerFor, directoryFor};
+ghost use Rattle.layout.specs.Records.{sphPlace, recordPlace, partOf};
+ghost use Rattle.layout.specs.Fields.{fieldReply, pointReply};
+ghost use Rattle.words.specs.Words.{verdictWords, placeWords, fieldWords, pointWords, pointDoubles, headerWords, headerTexts, directoryWords, directoryTexts};
+ghost use Rattle.host.specs.Lent.{OneRoom, TwoRooms};
+
+const WRITTEN: u32 = 0;
+
+const ROOM_TOO_SHORT: u32 = 1;
+
+#[no_mangle]
+pub extern "C" fn ambrothel_judge(p: &[u8], words: &mut [u64]) -> u32
+    ensures { λ r. ⌜ OneRoom (verdictWords (verdict (now (p .entry)))) (now (words .entry)) (now (words .exit)) r ⌝ }
+{
+    if words.len() < 3 {
+        return ROOM_TOO_SHORT;
+    }
+    put_verdict(words, product::judge(p));
+    WRITTEN
+}
+
+// The directory's words and texts, where both have room.
+fn put_whole_directory(
+    verdict: Verdict,
+    directory: Directory,
+    words: &mut [u64],
+    texts: &mut [u8],
+) -> u32
+    ensures { λ r. ⌜ TwoRooms (directoryWords (verdictIs verdict) directory) (now (words .entry)) (now (words .exit)) (directoryTexts directory) (now (texts .entry)) (now (texts .exit)) r ⌝ }
+{
+    if words.len() < 644 {
+        return ROOM_TOO_SHORT;
+    }
+    if texts.len() < 11520 {
+        return ROOM_TOO_SHORT;
+    }
+    put_directory(words, verdict, directory);
+    put_directory_texts(texts, directory);
+    WRITTEN
+}
+
+#[no_mangle]
+pub extern "C" fn ambrothel_open_directory(p: &[u8], words: &mut [u64], texts: &mut [u8]) -> u32
+    ensures { λ r. ⌜ TwoRooms (directoryWords (verdict (now (p .entry))) (directoryFor (verdict (now (p .entry))) (now (p .entry)))) (now (words .entry)) (now (words .exit)) (directoryTexts (directoryFor (verdict (now (p .entry))) (now (p .entry)))) (now (texts .entry)) (now (texts .exit)) r ⌝ }
+{
+    let answer = product::open_directory(p);
+    let verdict = answer.verdict;
+    let directory = answer.directory;
+    put_whole_directory(verdict, directory, words, texts)
+}
+
+// The main header's words and texts, where both have room.
+fn put_whole_header(
+    verdict: Verdict,
+    header: MainHeader,
+    words: &mut [u64],
+    texts: &mut [u8],
+) -> u32
+    ensures { λ r. ⌜ TwoRooms (headerWords (verdictIs verdict) header) (now (words .entry)) (now (words .exit)) (headerTexts header) (now (texts .entry)) (now (texts .exit)) r ⌝ }
+{
+    if words.len() < 25 {
+        return ROOM_TOO_SHORT;
+    }
+    if texts.len() < 289 {
+        return ROOM_TOO_SHORT;
+    }
+    put_header(words, verdict, header);
+    put_header_texts(texts, header);
+    WRITTEN
+}
+
+#[no_mangle]
+pub extern "C" fn ambrothel_header_values(p: &[u8], words: &mut [u64], texts: &mut [u8]) -> u32
+    ensures { λ r. ⌜ TwoRooms (headerWords (verdict (now (p .entry))) (headerFor (verdict (now (p .entry))) (now (p .entry)))) (now (words .entry)) (now (words .exit)) (headerTexts (headerFor (verdict (now (p .entry))) (now (p .entry)))) (now (texts .entry)) (now (texts .exit)) r ⌝ }
+{
+    let answer = product::header_values(p);
+    let verdict = answer.verdict;
+    let header = answer.header;
+    put_whole_header(verdict, header, words, texts)
+}
+
+#[no_mangle]
+pub extern "C" fn ambrothel_sph_place(p: &[u8], words: &mut [u64]) -> u32
+    ensures { λ r. ⌜ OneRoom (placeWords (sphPlace (now (p .entry)))) (now (words .entry)) (now (words .exit)) r ⌝ }
+{
+    if words.len() < 5 {
+        return ROOM_TOO_SHORT;
+    }
+    put_place(words, product::sph_place(p));
+    WRITTEN
+}
+
+// The part and its length, where both have room.
+fn put_part(part: &[u8], words: &mut [u64], bytes: &mut [u8]) -> u32
+    ensures { λ r. ⌜ TwoRooms (length (now (part .entry)) ∷ []) (now (words .entry)) (now (words .exit)) (now (part .entry)) (now (bytes .entry)) (now (bytes .exit)) r ⌝ }
+{
+    if words.len() < 1 {
+        return ROOM_TOO_SHORT;
+    }
+    if bytes.len() < part.len() {
+        return ROOM_TOO_SHORT;
+    }
+    let length = [part.len() as u64];
+    put_words(words, 0, &length);
+    put_text(bytes, 0, part);
+    WRITTEN
+}
+
+#[no_mangle]
+pub extern "C" fn ambrothel_sph_part(p: &[u8], words: &mut [u64], bytes: &mut [u8]) -> u32
+    ensures { λ r. ⌜ TwoRooms (length (partOf (now (p .entry)) (sphPlace (now (p .entry)))) ∷ []) (now (words .entry)) (now (words .exit)) (partOf (now (p .entry)) (sphPlace (now (p .entry)))) (now (bytes .entry)) (now (bytes .exit)) r ⌝ }
+{
+    put_part(product::sph_part(p), words, bytes)
+}
+
+#[no_mangle]
+pub extern "C" fn ambrothel_record_place(
+    p: &[u8],
+    entry: usize,
+    asked: usize,
+    words: &mut [u64],
+) -> u32
+    ensures { λ r. ⌜ OneRoom (placeWords (recordPlace (now (p .entry)) entry asked)) (now (words .entry)) (now (words .exit)) r ⌝ }
+{
+    if words.len() < 5 {
+        return ROOM_TOO_SHORT;
+    }
+    put_place(words, product::record_place(p, entry, asked));
+    WRITTEN
+}
+
+#[no_mangle]
+pub extern "C" fn ambrothel_record_part(
+    p: &[u8],
+    entry: usize,
+    asked: usize,
+    words: &mut [u64],
+    bytes: &mut [u8],
+) -> u32
+    ensures { λ r. ⌜ TwoRooms (length (partOf (now (p .entry)) (recordPlace (now (p .entry)) entry asked)) ∷ []) (now (words .entry)) (now (words .exit)) (partOf (now (p .entry)) (recordPlace (now (p .entry)) entry asked)) (now (bytes .entry)) (now (bytes .exit)) r ⌝ }
+{
+    put_part(product::record_part(p, entry, asked), words, bytes)
+}
+
+#[no_mangle]
+pub extern "C" fn ambrothel_field_at(
+    p: &[u8],
+    entry: usize,
+    asked: usize,
+    offset: usize,
+    kind: u8,
+    words: &mut [u64],
+) -> u32
+    ensures { λ r. ⌜ OneRoom (fieldWords (fieldReply (now (p .entry)) entry asked offset kind)) (now (words .entry)) (now (words .exit)) r ⌝ }
+{
+    if words.len() < 7 {
+        return ROOM_TOO_SHORT;
+    }
+    put_field(words, product::field_at(p, entry, asked, offset, kind));
+    WRITTEN
+}
+
+#[no_mangle]
+pub extern "C" fn ambrothel_point_at(
+    p: &[u8],
+    entry: usize,
+    asked: usize,
+    latitude: usize,
+    longitude: usize,
+    altitude: usize,
+    words: &mut [u64],
+    point: &mut [f64],
+) -> u32
+    ensures { λ r. ⌜ TwoRooms (pointWords (pointReply (now (p .entry)) entry asked latitude longitude altitude)) (now (words .entry)) (now (words .exit)) (pointDoubles (pointReply (now (p .entry)) entry asked latitude longitude altitude)) (now (point .entry)) (now (point .exit)) r ⌝ }
+{
+    if words.len() < 3 {
+        return ROOM_TOO_SHORT;
+    }
+    if point.len() < 3 {
+        return ROOM_TOO_SHORT;
+    }
+    let answer = product::point_at(p, entry, asked, latitude, longitude, altitude);
+    put_point(words, answer);
+    put_doubles(point, answer);
+    WRITTEN
+}
