@@ -1,9 +1,10 @@
 // Rules 12 to 14 of document 01, over the offsets and sizes of a directory's entries. No sum is made of two numbers that a product gives, so none can
 // pass 64 bits.
-ghost use Prim.Native.Nat.{_≤_};
+ghost use Prim.Native.Nat.{_-_, _≤_};
 ghost use mathlib.Core.Bool.{not};
 ghost use mathlib.Core.Path.{_≡_};
-ghost use Rattle.sets.specs.Sets.{isInside, overlaps, restOf, Run, Outside, Overlapping, Uncovered};
+ghost use Rattle.layout.specs.Search.{find};
+ghost use Rattle.sets.specs.Sets.{isInside, overlaps, covers, coversAt, Outside, Overlapping, Holding, Uncovered};
 
 // A non-empty set starts inside the headers or ends past the product.
 fn is_outside(offset: u64, size: u64, headers_end: u64, length: u64) -> bool
@@ -85,36 +86,61 @@ pub fn first_overlapping<'a>(
     found
 }
 
-// How many bytes a set has from the byte p on, or 0 where it does not hold p.
-fn rest_from(offset: u64, size: u64, p: u64) -> u64
-    ensures { λ r. ⌜ r ≡ restOf offset size p ⌝ }
+// A set holds the byte p.
+fn holds(offset: u64, size: u64, p: u64) -> bool
+    ensures { λ r. ⌜ r ≡ covers p offset size ⌝ }
 {
     if p < offset {
-        return 0;
+        return false;
     }
-    if size <= p - offset {
-        return 0;
-    }
-    size - (p - offset)
+    p - offset < size
 }
 
-// How many bytes from p on the first set that holds p has, or 0 where none does.
-fn run_from<'a>(offsets: &'a [u64; 128], sizes: &'a [u64; 128], entries: usize, p: u64) -> u64
-    requires { ⌜ entries ≤ 128 ⌝ }
-    ensures { λ r. ⌜ Run (now (offsets .entry)) (now (sizes .entry)) entries p r ⌝ }
+// The first of the entries from `from` to before `to` whose set holds p, or `to`.
+fn first_holding<'a>(
+    offsets: &'a [u64; 128],
+    sizes: &'a [u64; 128],
+    from: usize,
+    to: usize,
+    p: u64,
+) -> usize
+    requires { ⌜ (from ≤ to) × (to ≤ 128) ⌝ }
+    ensures { λ r. ⌜ r ≡ find (coversAt (now (offsets .entry)) (now (sizes .entry)) p) from (to - from) ⌝ }
 {
-    let mut i = 0;
-    while i < entries {
-        let rest = rest_from(offsets[i], sizes[i], p);
-        if 0 < rest {
-            return rest;
+    let mut i = from;
+    while i < to {
+        if holds(offsets[i], sizes[i], p) {
+            return i;
         }
         i += 1;
     }
-    0
+    to
+}
+
+// An entry whose set holds p, or the number of entries. It looks from `from` on first, where the next set most often is.
+fn one_holding<'a>(
+    offsets: &'a [u64; 128],
+    sizes: &'a [u64; 128],
+    entries: usize,
+    from: usize,
+    p: u64,
+) -> usize
+    requires { ⌜ (from ≤ entries) × (entries ≤ 128) ⌝ }
+    ensures { λ r. ⌜ Holding (now (offsets .entry)) (now (sizes .entry)) entries p r ⌝ }
+{
+    let behind = first_holding(offsets, sizes, from, entries, p);
+    if behind < entries {
+        return behind;
+    }
+    let before = first_holding(offsets, sizes, 0, from, p);
+    if before < from {
+        return before;
+    }
+    entries
 }
 
 // Rule 14: the first byte after the headers that is in no set, or the length. It goes by jumps from a set's end to the next, and no set is jumped over twice.
+// Each set is looked for behind the one before it: in a directory in the order of the file it is the first looked at.
 pub fn first_uncovered<'a>(
     offsets: &'a [u64; 128],
     sizes: &'a [u64; 128],
@@ -126,15 +152,18 @@ pub fn first_uncovered<'a>(
     ensures { λ r. ⌜ Uncovered (now (offsets .entry)) (now (sizes .entry)) entries «headers_end» length r ⌝ }
 {
     let mut p = headers_end;
+    let mut from = 0;
     while p < length {
-        let run = run_from(offsets, sizes, entries, p);
-        if run == 0 {
+        let i = one_holding(offsets, sizes, entries, from, p);
+        if entries <= i {
             return p;
         }
-        if length - p <= run {
+        let rest = sizes[i] - (p - offsets[i]);
+        if length - p <= rest {
             return length;
         }
-        p += run;
+        p += rest;
+        from = i + 1;
     }
     length
 }
