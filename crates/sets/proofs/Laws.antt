@@ -9,13 +9,14 @@ use native.Mathlib.Omega.{arith}
 use native.Mathlib.Nat.{sub-zero}
 use lib.Dec.{T, leb, ltb, eqb}
 use lib.ListN.{length, getD}
-use borrow.Author.Tests.{lt-ltb, le-ltb, le-leb, lt-leb, eq-eqb, ne-eqb, ltb-true, ltb-false, not-true, not-false}
+use borrow.Author.Count.{below-more}
+use borrow.Author.Tests.{lt-ltb, le-ltb, le-leb, lt-leb, eq-eqb, ne-eqb, ltb-true, ltb-false, leb-true, not-true, not-false}
 use Rattle.layout.specs.Answer.{Answer, accepted, refused, none, need}
 use Rattle.layout.specs.Search.{first, some, find}
 use Rattle.layout.specs.Entries.{Entry, at, holds, shares}
 use Rattle.layout.specs.Rules.{setInside, rule12At, sharesAt, rule13At, holdsAt, rule14At}
-use Rattle.layout.proofs.Laws.{lt-or-le, need-accepts, some-T, some-same, some-step, first-same, first-step, first-skip, find-at, find-before}
-use Rattle.sets.specs.Sets.{isInside, overlaps, overlapsAt, covers, coversAt, isCovered, rule12By, rule13By, rule14By, Holding, Held, Outside, Overlapping, Uncovered}
+use Rattle.layout.proofs.Laws.{lt-or-le, need-accepts, some-T, some-same, some-step, some-end, first-same, first-step, first-skip, find-at, find-before}
+use Rattle.sets.specs.Sets.{isInside, overlaps, overlapsAt, largest, Between, Clear, covers, coversAt, isCovered, rule12By, rule13By, rule14By, Holding, Held, Outside, Overlapping, Uncovered}
 
 -- ---- one set, and two, by their numbers
 
@@ -68,6 +69,33 @@ module _ (a s b t : ℕ) where
     from-above h =
         rw (lt-ltb 0 s (omega arith), lt-ltb 0 t (omega arith), lt-ltb b (a + s) (omega arith), and-true)
         (ltb-same (a - b) t a (b + t) (λ g. omega arith) (λ g. omega arith))
+
+  apart : (0 < s → 0 < t → (a + s ≤ b) ⊎ (b + t ≤ a)) → overlaps a s b t ≡ false
+  unfolding overlaps
+  apart h = go (lt-or-le 0 s) (lt-or-le 0 t)
+    where
+      go : (0 < s) ⊎ (s ≤ 0) → (0 < t) ⊎ (t ≤ 0) → (ltb 0 s && (ltb 0 t && (ltb a (b + t) && ltb b (a + s)))) ≡ false
+      go (inr u) m = rw (le-ltb 0 s u)
+      go (inl u) (inr v) = rw (le-ltb 0 t v, and-false)
+      go (inl u) (inl v) = ⊎-elim (λ w. rw (le-ltb b (a + s) w, and-false, and-false, and-false)) (λ w. rw (le-ltb a (b + t) w, and-false, and-false)) (h u v)
+
+-- a set outside low..high shares no byte with one between them
+module _ (a s low high : ℕ) where
+  pub clear-empty : s ≡ 0 → Clear low high a s
+  unfolding Clear
+  clear-empty e b t w = apart a s b t (λ u v. absurd (omega arith))
+
+  pub clear-below : a < low → leb s (low - a) ≡ true → Clear low high a s
+  unfolding Clear
+  clear-below l e b t w = apart a s b t (λ u v. inl (omega (arith, w .starts v, leb-true s (low - a) e)))
+
+  pub clear-above : high ≤ a → ltb a largest ≡ true → Clear low high a s
+  unfolding Clear
+  clear-above l e b t w = apart a s b t (λ u v. inr (let h = ltb-true a largest e in omega (arith, w .ends v (omega arith))))
+
+-- low and high hold the sets of the entries below i
+pub record Lower (offsets sizes : List ℕ) (i low high : ℕ) : Type 0 where
+  pub each : (j : ℕ) → j < i → Between low high (getD offsets j 0) (getD sizes j 0)
 
 module _ (offset size p : ℕ) where
   pub holds-later : p < offset → false ≡ covers p offset size
@@ -187,6 +215,20 @@ module _ (offsets sizes : List ℕ) where
   pub overlaps-none : (i : ℕ) → some (overlapsAt offsets sizes i) 0 i ≡ false → rule13By offsets sizes i ≡ accepted
   unfolding rule13By
   overlaps-none i e = rw e
+
+  -- a set outside what holds all lower ones shares no byte with one, and what holds it too
+  module _ (i low high : ℕ) (lower : Lower offsets sizes i low high) where
+    pub none-shares : Clear low high (getD offsets i 0) (getD sizes i 0) → some (overlapsAt offsets sizes i) 0 i ≡ some (overlapsAt offsets sizes i) i (i - i)
+    unfolding Clear overlapsAt
+    none-shares h = some-false (overlapsAt offsets sizes i) 0 i (λ j l u. h _ _ (lower .each j (omega arith))) ∙ sym (some-end (overlapsAt offsets sizes i) i)
+
+    pub one-more : (l h : ℕ) → (l ≤ low) × (0 < getD sizes i 0 → l ≤ getD offsets i 0) → (high ≤ h) × (0 < getD sizes i 0 → h < largest → getD offsets i 0 + getD sizes i 0 ≤ h)
+        → Lower offsets sizes (i + 1) l h
+    one-more l h m n = record {
+      each =
+          below-more _ i (λ j u. let w = lower .each j u in record { starts = λ v. omega (arith, w .starts v, m .0); ends = λ v x. omega (arith, w .ends v (omega (arith, n .0)), n .0) })
+          (record { starts = m .1; ends = n .1 });
+    }
 
   -- the two searches for a set that holds p, from f on and before it
   module _ (n f p : ℕ) (l : f ≤ n) where

@@ -1,7 +1,7 @@
 -- Rules 12 to 14 over arrays of offsets and sizes: the tests of one set and of two by their numbers, and what the searches answer of any directory
 -- that the arrays hold.
 -- Assumes nothing.
-use Prim.Native.Nat.{ℕ, _+_, _-_, _≤_, _<_}
+use Prim.Native.Nat.{ℕ, _+_, _-_, _^_, _≤_, _<_}
 use mathlib.Core.Bool.{Bool, false, _&&_, not}
 use mathlib.Core.List.{List}
 use mathlib.Core.Path.{_≡_}
@@ -47,6 +47,18 @@ unfoldable pub rule14By : List ℕ → List ℕ → ℕ → ℕ → Answer
 rule14By offsets sizes n p = need (isCovered offsets sizes n p) 14 p none
 
 -- ---- what the searches answer
+
+abbrev pub largest : ℕ
+largest = 2 ^ 64 - 1
+
+-- a set of one byte or more lies between low and high; an end past 64 bits is held at the largest number, which so bounds nothing
+pub record Between (low high offset size : ℕ) : Type 0 where
+  pub starts : 0 < size → low ≤ offset
+  pub ends : 0 < size → high < largest → offset + size ≤ high
+
+-- this set shares no byte with any set between low and high
+unfoldable pub Clear : ℕ → ℕ → ℕ → ℕ → Type 0
+Clear low high offset size = (b t : ℕ) → Between low high b t → overlaps offset size b t ≡ false
 
 -- r is an entry whose set holds the byte p, or the number n of entries where none does
 pub record Holding (offsets sizes : List ℕ) (n p r : ℕ) : Type 0 where

@@ -1,10 +1,10 @@
 // Rules 12 to 14 of document 01, over the offsets and sizes of a directory's entries. No sum is made of two numbers that a product gives, so none can
 // pass 64 bits.
-ghost use Prim.Native.Nat.{_-_, _≤_};
-ghost use mathlib.Core.Bool.{not};
+ghost use Prim.Native.Nat.{_+_, _-_, _≤_, _<_};
+ghost use mathlib.Core.Bool.{true, not};
 ghost use mathlib.Core.Path.{_≡_};
 ghost use Rattle.layout.specs.Search.{find};
-ghost use Rattle.sets.specs.Sets.{isInside, overlaps, covers, coversAt, Outside, Overlapping, Holding, Uncovered};
+ghost use Rattle.sets.specs.Sets.{isInside, overlaps, largest, Clear, covers, coversAt, Outside, Overlapping, Holding, Uncovered};
 
 // A non-empty set starts inside the headers or ends past the product.
 fn is_outside(offset: u64, size: u64, headers_end: u64, length: u64) -> bool
@@ -59,8 +59,53 @@ fn share(offset: u64, size: u64, lower_offset: u64, lower_size: u64) -> bool
     offset - lower_offset < lower_size
 }
 
+// Where the lowest of the sets so far starts, with one more.
+fn low_with(low: u64, offset: u64, size: u64) -> u64
+    ensures { λ r. ⌜ (r ≤ low) × (0 < size → r ≤ offset) ⌝ }
+{
+    if size == 0 {
+        return low;
+    }
+    if low < offset {
+        return low;
+    }
+    offset
+}
+
+// Where the highest of the sets so far ends, with one more; an end past 64 bits is held at u64::MAX.
+fn high_with(high: u64, offset: u64, size: u64) -> u64
+    ensures { λ r. ⌜ (high ≤ r) × (0 < size → r < largest → offset + size ≤ r) ⌝ }
+{
+    if size == 0 {
+        return high;
+    }
+    if u64::MAX - offset < size {
+        return u64::MAX;
+    }
+    if offset + size < high {
+        return high;
+    }
+    offset + size
+}
+
+// A set is empty or lies outside low..high. A high of u64::MAX may stand for a later end, so nothing starts behind it.
+fn is_clear(offset: u64, size: u64, low: u64, high: u64) -> bool
+    ensures { λ r. ⌜ (r ≡ true → Clear low high offset size) ⌝ }
+{
+    if size == 0 {
+        return true;
+    }
+    if offset < low {
+        return size <= low - offset;
+    }
+    if offset < high {
+        return false;
+    }
+    offset < u64::MAX
+}
+
 // Rule 13: the lowest entry whose set shares a byte with one of a lower entry, or the number of entries. The search stops at the first overlapping
-// pair.
+// pair. All lower sets lie between low and high, so a set outside is held against none: in a directory in the order of the file that is every set.
 pub fn first_overlapping<'a>(
     offsets: &'a [u64; 128],
     sizes: &'a [u64; 128],
@@ -70,17 +115,27 @@ pub fn first_overlapping<'a>(
     ensures { λ r. ⌜ Overlapping (now (offsets .entry)) (now (sizes .entry)) entries r ⌝ }
 {
     let mut i = 0;
+    let mut low = u64::MAX;
+    let mut high = 0;
     let found = 'pairs: loop {
         if entries <= i {
             break 'pairs entries;
         }
-        let mut j = 0;
+        let offset = offsets[i];
+        let size = sizes[i];
+        let mut j = if is_clear(offset, size, low, high) {
+            i
+        } else {
+            0
+        };
         while j < i {
             if share(offsets[i], sizes[i], offsets[j], sizes[j]) {
                 break 'pairs i;
             }
             j += 1;
         }
+        low = low_with(low, offset, size);
+        high = high_with(high, offset, size);
         i += 1;
     };
     found
