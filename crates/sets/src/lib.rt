@@ -1,5 +1,5 @@
-// Rules 12 to 14 of document 01, over the offsets and sizes of a directory's entries. No sum is made of two numbers that a product gives, so none can
-// pass 64 bits.
+// Rules 12 to 14 of document 01, over the offsets and sizes of a directory's entries. Two numbers that a product gives are compared by differences, so
+// no sum can pass 64 bits.
 ghost use Prim.Native.Nat.{_+_, _-_, _≤_, _<_};
 ghost use mathlib.Core.Bool.{true, not};
 ghost use mathlib.Core.Path.{_≡_};
@@ -194,8 +194,18 @@ fn one_holding<'a>(
     entries
 }
 
+// The entry before i, or 0.
+fn one_before(i: usize) -> usize
+    ensures { λ r. ⌜ r ≤ i ⌝ }
+{
+    if i == 0 {
+        return 0;
+    }
+    i - 1
+}
+
 // Rule 14: the first byte after the headers that is in no set, or the length. It goes by jumps from a set's end to the next, and no set is jumped over twice.
-// Each set is looked for behind the one before it: in a directory in the order of the file it is the first looked at.
+// The next set is looked for from the entry before the last one found: in a directory in the order of the file, or in the reverse, it is at hand.
 pub fn first_uncovered<'a>(
     offsets: &'a [u64; 128],
     sizes: &'a [u64; 128],
@@ -218,7 +228,7 @@ pub fn first_uncovered<'a>(
             return length;
         }
         p += rest;
-        from = i + 1;
+        from = one_before(i);
     }
     length
 }

@@ -59,16 +59,16 @@ returns-2 c =
 add-p : tie.Need-add-p Inv-loop μ-loop
 add-p c = let h = c .before .before .before .before .one-holding .ensures .found (omega arith) in omega (arith, h .0, h .1)
 
-add-from : tie.Need-add-from Inv-loop μ-loop
-add-from c = omega arith
+one-before-requires : tie.Need-one-before-requires Inv-loop μ-loop
+one-before-requires c κs = search needs
 
 loop-less : tie.Need-loop-less Inv-loop μ-loop
-loop-less c = let h = c .before .before .before .before .one-holding .ensures .found (omega arith) in omega (arith, h .0, h .1)
+loop-less c = let h = c .before .before .before .before .before .one-holding .ensures .found (omega arith) in omega (arith, h .0, h .1)
 
 loop-again : tie.Need-loop-again Inv-loop μ-loop
 loop-again c =
-    let h = c .before .before .before .before .one-holding .ensures .found (omega arith) in
-    (omega arith, jump _ _ _ _ _ _ _ (c .before .before .before .before .before .before .loop .inv .1) (omega arith) (h .0) _ (omega arith) (omega arith) (omega (arith, h .0, h .1)))
+    let h = c .before .before .before .before .before .one-holding .ensures .found (omega arith) in
+    (omega arith, jump _ _ _ _ _ _ _ (c .before .before .before .before .before .before .before .loop .inv .1) (omega arith) (h .0) _ (omega arith) (omega arith) (omega (arith, h .0, h .1)))
 
 returns-3 : tie.Need-returns-3 Inv-loop μ-loop
 returns-3 c = uncovered _ _ _ _ _ _ (omega arith) (first-none _ _ _ _ (c .before .loop .inv .1) _ _ _ (c .loop-test .left))
@@ -91,7 +91,7 @@ first-uncovered-spec =
     sub-if2
     returns-2
     add-p
-    add-from
+    one-before-requires
     loop-less
     loop-again
     returns-3)
