@@ -156,10 +156,6 @@ headerRules = rule1 ∷ rule2 ∷ rule3 ∷ rule4 ∷ rule5 ∷ rule6 ∷ rule7 
 unfoldable pub stateRules : List Entry → Tally → Answer
 stateRules ds t = rule15 ds t orElse rule16 ds t
 
--- from the length, the header bytes and a tally
-unfoldable pub verdictFrom : List ℕ → ℕ → Tally → Answer
-verdictFrom b n t = let states = stateRules (directory b) t in firstRule headerRules b n orElse states
-
 -- the verdict on a product lent whole
 unfoldable pub verdict : List ℕ → Answer
 verdict b = let states = stateRules (directory b) (tallyOf (statesOf b (directory b))) in firstRule headerRules b (length b) orElse states
