@@ -216,7 +216,7 @@ module _ (offsets sizes : List ℕ) where
   unfolding rule13By
   overlaps-none i e = rw e
 
-  -- a set outside what holds all lower ones shares no byte with one, and what holds it too
+  -- where low and high hold all lower sets, a set that is clear of them shares no byte with a lower one; wider bounds hold it too
   module _ (i low high : ℕ) (lower : Lower offsets sizes i low high) where
     pub none-shares : Clear low high (getD offsets i 0) (getD sizes i 0) → some (overlapsAt offsets sizes i) 0 i ≡ some (overlapsAt offsets sizes i) i (i - i)
     unfolding Clear overlapsAt
@@ -230,33 +230,24 @@ module _ (offsets sizes : List ℕ) where
           (record { starts = m .1; ends = n .1 });
     }
 
-  -- the two searches for a set that holds p, from f on and before it
-  module _ (n f p : ℕ) (l : f ≤ n) where
-    pub holding-behind : (r : ℕ) → r ≡ find (coversAt offsets sizes p) f (n - f) → r < n → Holding offsets sizes n p r
-    unfolding coversAt
-    holding-behind r e h = record {
-      within = omega arith;
-      found = λ _. holds-between (getD offsets r 0) (getD sizes r 0) p (rw e (find-at (coversAt offsets sizes p) f (n - f) (omega arith)));
-      missed = λ q. absurd (omega arith);
-    }
+  -- a search for a set that holds p found one; the two from f on and before f found none
+  pub holding-found : (n p f m r : ℕ) → f ≤ m → m ≤ n → r ≡ find (coversAt offsets sizes p) f (m - f) → r < m → Holding offsets sizes n p r
+  unfolding coversAt
+  holding-found n p f m r l u e h = record {
+    within = omega arith;
+    found = λ _. holds-between (getD offsets r 0) (getD sizes r 0) p (rw e (find-at (coversAt offsets sizes p) f (m - f) (omega arith)));
+    missed = λ q. absurd (omega arith);
+  }
 
-    pub holding-before : (r : ℕ) → r ≡ find (coversAt offsets sizes p) 0 (f - 0) → r < f → Holding offsets sizes n p r
-    unfolding coversAt
-    holding-before r e h = record {
-      within = omega arith;
-      found = λ _. holds-between (getD offsets r 0) (getD sizes r 0) p (rw e (find-at (coversAt offsets sizes p) 0 (f - 0) (omega arith)));
-      missed = λ q. absurd (omega arith);
-    }
-
-    pub holding-none : (r q : ℕ) → r ≡ find (coversAt offsets sizes p) f (n - f) → n ≤ r → q ≡ find (coversAt offsets sizes p) 0 (f - 0) → f ≤ q → Holding offsets sizes n p n
-    unfolding isCovered
-    holding-none r q e h d g = record {
-      within = omega arith;
-      found = λ q. absurd (omega arith);
-      missed = λ _. some-false (coversAt offsets sizes p) 0 n (λ k w u. ⊎-elim
-          (λ v. find-before (coversAt offsets sizes p) 0 (f - 0) k (omega arith) (omega arith))
-          (λ v. find-before (coversAt offsets sizes p) f (n - f) k v (omega arith)) (lt-or-le k f));
-    }
+  pub holding-none : (n p f r q : ℕ) → r ≡ find (coversAt offsets sizes p) f (n - f) → n ≤ r → q ≡ find (coversAt offsets sizes p) 0 (f - 0) → f ≤ q → Holding offsets sizes n p n
+  unfolding isCovered
+  holding-none n p f r q e h d g = record {
+    within = omega arith;
+    found = λ q. absurd (omega arith);
+    missed = λ _. some-false (coversAt offsets sizes p) 0 n (λ k w u. ⊎-elim
+        (λ v. find-before (coversAt offsets sizes p) 0 (f - 0) k (omega arith) (omega arith))
+        (λ v. find-before (coversAt offsets sizes p) f (n - f) k v (omega arith)) (lt-or-le k f));
+  }
 
   pub byte-uncovered : (n p : ℕ) → isCovered offsets sizes n p ≡ false → rule14By offsets sizes n p ≡ refused 14 p none
   unfolding rule14By

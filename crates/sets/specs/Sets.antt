@@ -48,10 +48,11 @@ rule14By offsets sizes n p = need (isCovered offsets sizes n p) 14 p none
 
 -- ---- what the searches answer
 
+-- the largest number of 64 bits
 abbrev pub largest : ℕ
 largest = 2 ^ 64 - 1
 
--- a set of one byte or more lies between low and high; an end past 64 bits is held at the largest number, which so bounds nothing
+-- a set of one byte or more lies between low and high; a high of the largest number stands for any end that is not below it
 pub record Between (low high offset size : ℕ) : Type 0 where
   pub starts : 0 < size → low ≤ offset
   pub ends : 0 < size → high < largest → offset + size ≤ high

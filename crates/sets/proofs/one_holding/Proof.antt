@@ -2,7 +2,7 @@
 -- Assumes nothing.
 use borrow.Author.Needs.{needs}
 use native.Mathlib.Omega.{arith}
-use Rattle.sets.proofs.Laws.{holding-behind, holding-before, holding-none}
+use Rattle.sets.proofs.Laws.{holding-found, holding-none}
 use Rattle.sets.proofs.one_holding.Statement.{statement}
 use Rattle.sets.proofs.one_holding.Tie as tie
 
@@ -10,17 +10,17 @@ first-holding-requires : tie.Need-first-holding-requires
 first-holding-requires c κs = search needs
 
 returns : tie.Need-returns
-returns c = holding-behind _ _ _ _ _ (omega arith) _ (c .before .first-holding .ensures) (c .if1 .taken)
+returns c = holding-found _ _ _ _ _ _ _ (omega arith) (omega arith) (c .before .first-holding .ensures) (c .if1 .taken)
 
 first-holding-requires-2 : tie.Need-first-holding-requires-2
 first-holding-requires-2 c κs = search needs
 
 returns-2 : tie.Need-returns-2
-returns-2 c = holding-before _ _ _ _ _ (omega arith) _ (c .before .first-holding2 .ensures) (c .if2 .taken)
+returns-2 c = holding-found _ _ _ _ _ _ _ (omega arith) (omega arith) (c .before .first-holding2 .ensures) (c .if2 .taken)
 
 returns-3 : tie.Need-returns-3
 returns-3 c =
-    holding-none _ _ _ _ _ (omega arith) _ _ (c .before .before .before .first-holding .ensures) (c .before .before .if1 .left) (c .before .first-holding2 .ensures) (c .if2 .left)
+    holding-none _ _ _ _ _ _ _ (c .before .before .before .first-holding .ensures) (c .before .before .if1 .left) (c .before .first-holding2 .ensures) (c .if2 .left)
 
 pub one-holding-spec : {M : Type 1} → statement M
 one-holding-spec =
