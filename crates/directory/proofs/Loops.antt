@@ -14,8 +14,8 @@ use lib.Seq.{append-snoc, set-at}
 use borrow.Author.Tests.{eq-eqb, ne-eqb, ltb-true, ltb-false}
 use Rattle.layout.specs.Answer.{Answer, accepted, refused, _orElse_, need}
 use Rattle.layout.specs.Search.{first, count, upto}
-use Rattle.layout.specs.Entries.{Entry, entries, entryAt, directory, start, extent, isCounted}
-use Rattle.layout.specs.Rules.{isCountedAt}
+use Rattle.layout.specs.Entries.{Entry, entries, entryAt, directory, start, extent, isData}
+use Rattle.layout.specs.Rules.{isDataAt}
 use Rattle.layout.specs.Answers.{padded, typeOf, countOf, recordSizeOf}
 use Rattle.layout.proofs.Laws.{orElse-assoc, orElse-accepted, first-step}
 use Rattle.layout.proofs.Sound.{length-map-upto, length-directory, at-directory}
@@ -162,11 +162,11 @@ module _ (f : ℕ → Answer) (base fitting i : ℕ) (t : Bool) (within : fittin
       bound false false = omega arith
 
 -- one entry more counted
-pub eleven-next : (b : List ℕ) (counted i : ℕ) (t : Bool) → i < entries b → counted ≡ count (isCountedAt (directory b)) 0 i → counted ≤ i → t ≡ isCounted (entryAt b i)
-    → {r : ℕ} → r ≡ counted + cond t 1 0 → (r ≡ count (isCountedAt (directory b)) 0 (i + 1)) × (r ≤ i + 1)
-unfolding isCountedAt
+pub eleven-next : (b : List ℕ) (counted i : ℕ) (t : Bool) → i < entries b → counted ≡ count (isDataAt (directory b)) 0 i → counted ≤ i → t ≡ isData (entryAt b i)
+    → {r : ℕ} → r ≡ counted + cond t 1 0 → (r ≡ count (isDataAt (directory b)) 0 (i + 1)) × (r ≤ i + 1)
+unfolding isDataAt
 eleven-next b counted i t h e l q s = (
-  s ∙ sym (rw (add-one i, count-more (isCountedAt (directory b)) 0 i, zero-add i, ← e, at-directory b i h, ← q)),
+  s ∙ sym (rw (add-one i, count-more (isDataAt (directory b)) 0 i, zero-add i, ← e, at-directory b i h, ← q)),
   most t s,
 )
   where

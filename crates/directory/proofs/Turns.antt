@@ -12,7 +12,7 @@ use Rattle.layout.specs.Bytes.{bytes, part}
 use Rattle.layout.specs.Text.{whole, layout}
 use Rattle.layout.specs.Answer.{accepted, refused, _orElse_, need}
 use Rattle.layout.specs.Search.{laidOut}
-use Rattle.layout.specs.Entries.{Entry, most, dsdAt, dsdBytes, entryOf, entryAt, called, start, extent, kindOf, isData, isCounted, isReference, isVariable, isStates, allZero, inRange, isFixed, setFits, numbersFit}
+use Rattle.layout.specs.Entries.{Entry, most, dsdAt, dsdBytes, entryOf, entryAt, called, start, extent, kindOf, isData, isReference, isVariable, isStates, allZero, inRange, isFixed, setFits, numbersFit}
 use Rattle.layout.specs.Answers.{typeOf, countOf, recordSizeOf}
 use Rattle.layout.specs.Rules.{linesOf, rule8At, rule9At, rule10At}
 use Rattle.layout.proofs.Laws.{lt-or-le}
@@ -111,10 +111,10 @@ pub record Turn (e : Entry) (h : HeldEntry) : Type 0 where
   pub record-sizes : wholeIn (h .«record_size») ≡ recordSizeOf e
   pub roles : roleOf (viewOf h) ≡ roleOf e
   pub fits : numbersFit (viewOf h) ≡ numbersFit e
-  pub counted : isCounted (viewOf h) ≡ isCounted e
+  pub counted : isData (viewOf h) ≡ isData e
 
 turn-held : (e : Entry) → overPlace (viewOf (heldOf e)) ≡ 0 → Turn e (heldOf e)
-unfolding heldOf start extent wholeIn whole isCounted isData
+unfolding heldOf start extent wholeIn whole isData
 turn-held e ok =
     record {
       types = refl;
@@ -124,10 +124,10 @@ turn-held e ok =
       record-sizes = refl;
       roles = ap roleOf (view e ok) ∙ same-role e;
       fits = ap numbersFit (view e ok) ∙ same-fits e;
-      counted = ap isCounted (view e ok) ∙ same-counted;
+      counted = ap isData (view e ok) ∙ same-counted;
     }
   where
-    same-counted : isCounted (by-role e) ≡ isCounted e
+    same-counted : isData (by-role e) ≡ isData e
     same-counted = refl
 
 module _ (b : List ℕ) (dsds n i : ℕ) (placed : Dsds b dsds n) where

@@ -9,7 +9,7 @@ use lib.ListN.{length, replicate}
 use Rattle.layout.specs.Answer.{Answer, accepted, refused, _orElse_, need}
 use Rattle.layout.specs.Search.{first, count, upto}
 use Rattle.layout.specs.Entries.{Entry, headersEnd, entries, dsdAt, entryAt, directory, start, extent}
-use Rattle.layout.specs.Rules.{rule7, rule8, rule9At, rule9, rule10At, rule10, isCountedAt, rule11, rule12, rule13, rule14}
+use Rattle.layout.specs.Rules.{rule7, rule8, rule9At, rule9, rule10At, rule10, isDataAt, rule11, rule12, rule13, rule14}
 use Rattle.layout.specs.Answers.{padded, typeOf, countOf, recordSizeOf, verdictIs}
 use Rattle.directory.specs.declared.Sets.{Sets}
 use Rattle.directory.specs.declared.Reading.{Reading}
@@ -80,7 +80,7 @@ pub record ReadAll (b : List ℕ) (dsds n : ℕ) (r : Reading) : Type 0 where
   pub nine : verdictIs (r .over) ≡ first (rule9At b) 0 n
   pub within : r .fitting ≤ n
   pub ten : first (rule9At b) 0 n ≡ accepted → first (rule10At b) 0 n ≡ need (eqb (r .fitting) n) 10 (dsds + 280 * r .fitting) (r .fitting)
-  pub eleven : first (rule9At b) 0 n ≡ accepted → r .counted ≡ count (isCountedAt (directory b)) 0 n
+  pub eleven : first (rule9At b) 0 n ≡ accepted → r .counted ≡ count (isDataAt (directory b)) 0 n
   pub read : first (rule9At b) 0 n ≡ accepted → r .sets ≡ setsOf (directory b)
 
 -- the check of a product of n bytes; beside a refusal all numbers are zero

@@ -10,7 +10,7 @@ ghost use mathlib.Core.List.{List, map};
 ghost use Rattle.layout.specs.Answer.{refused, _orElse_, need};
 ghost use Rattle.layout.specs.Answers.{verdictIs, padded, nameOf, filenameOf, directoryOf};
 ghost use Rattle.layout.specs.Bytes.{part};
-ghost use Rattle.layout.specs.Entries.{Entry as LayoutEntry, eqZ, numDataSets, directory, called, isData, allZero, inRange, isFixed, isVariable, setFits, numbersFit, isCounted, atLeast};
+ghost use Rattle.layout.specs.Entries.{Entry as LayoutEntry, eqZ, numDataSets, directory, called, isData, allZero, inRange, isFixed, isVariable, setFits, numbersFit, atLeast};
 ghost use Rattle.layout.specs.Rules.{rule7, rule8At, rule8, rule12At, rule13At, rule14At};
 ghost use Rattle.layout.specs.Search.{first, join};
 ghost use Rattle.layout.specs.Text.{whole};
@@ -247,7 +247,7 @@ impl Entry {
     // What NUM_DATA_SETS counts, if it counts `counted` before this entry (rule 11).
     fn counted_with(self, counted: usize) -> usize
         requires { ⌜ counted < 128 ⌝ }
-        ensures { λ r. ⌜ r ≡ counted + cond (isCounted (viewOf self)) 1 0 ⌝ }
+        ensures { λ r. ⌜ r ≡ counted + cond (isData (viewOf self)) 1 0 ⌝ }
     {
         if self.is_data() {
             return counted + 1;

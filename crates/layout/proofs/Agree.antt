@@ -19,7 +19,7 @@ use Rattle.layout.specs.Search.{first, upto, firstRule, laidOut}
 use Rattle.layout.specs.Entries.{headerNumber, totSize, sphSize, numDsd, dsdSize, numDataSets, headersEnd, entries, dsdAt, dsdBytes, entryAt, directory}
 use Rattle.layout.specs.Sph.{sphLines}
 use Rattle.layout.specs.States.{Tally, statesOf, tallyOf}
-use Rattle.layout.specs.Rules.{rule1, rule2, rule3, rule4, rule5, rule6, sphFits, dsdsFit, rule7, rule8At, rule8, rule9At, rule9, rule10At, rule10, rule11, rule12, rule13, rule14, headerRules, stateRules, verdictFrom, verdict}
+use Rattle.layout.specs.Rules.{rule1, rule2, rule3, rule4, rule5, rule6, sphFits, dsdsFit, rule7, rule8At, rule8, rule9At, rule9, rule10At, rule10, rule11, rule12, rule13, rule14, headerRules, stateRules, verdict}
 use Rattle.layout.specs.Answers.{directoryFor}
 use Rattle.layout.proofs.Laws.{and-T, leb-T, need-accepts, orElse-accepts, orElse-assoc, accepted≢refused, first-same, laidOut-take}
 use Rattle.layout.proofs.Starts.{mph-length}
@@ -45,6 +45,23 @@ map-upto-same f g i (suc n) h = rw (h i (omega arith) (omega arith), map-upto-sa
 orElse-same : (a x y : Answer) → (a ≡ accepted → x ≡ y) → (a orElse x) ≡ (a orElse y)
 orElse-same accepted x y h = h refl
 orElse-same (refused n p e) x y h = refl
+
+-- ---- the rules in their order, of bytes d, from the length n and a tally
+
+rules7to16 : ℕ → Tally → List ℕ → Answer
+rules7to16 n t d =
+    rule7 d n
+    orElse rule8 d n
+    orElse rule9 d n
+    orElse rule10 d n
+    orElse rule11 d n
+    orElse rule12 d n
+    orElse rule13 d n
+    orElse rule14 d n
+    orElse stateRules (directory d) t
+
+rules1to16 : ℕ → Tally → List ℕ → Answer
+rules1to16 n t d = rule1 d n orElse rule2 d n orElse rule3 d n orElse rule4 d n orElse rule5 d n orElse rule6 d n orElse rules7to16 n t d
 
 -- ---- what two products agree on
 
@@ -177,39 +194,22 @@ module _ (b c : List ℕ) (n : ℕ) (same : SameHeaders b c n) where
     unfolding rule14
     same-rule14 = rw (same-directory, same-headersEnd)
 
-  rules7to16 : List ℕ → Tally → Answer
-  rules7to16 d t =
-      rule7 d n
-      orElse rule8 d n
-      orElse rule9 d n
-      orElse rule10 d n
-      orElse rule11 d n
-      orElse rule12 d n
-      orElse rule13 d n
-      orElse rule14 d n
-      orElse stateRules (directory d) t
-
-  same-rest : (t : Tally) → rule6 b n ≡ accepted → rules7to16 b t ≡ rules7to16 c t
+  same-rest : (t : Tally) → rule6 b n ≡ accepted → rules7to16 n t b ≡ rules7to16 n t c
   unfolding rules7to16
   same-rest t six =
       rw (same-rule7 six, same-rule8 six, same-rule9 six, same-rule10 six, same-rule11 six, same-rule12 six, same-rule13 six, same-rule14 six, same-directory six)
 
-  in-order : (d : List ℕ) (t : Tally) → verdictFrom d n t ≡ (rule1 d n orElse rule2 d n orElse rule3 d n orElse rule4 d n orElse rule5 d n orElse rule6 d n orElse rules7to16 d t)
-  unfolding verdictFrom firstRule headerRules rules7to16
-  in-order d t = simp orElse-assoc
-
-  pub same-verdictFrom : (t : Tally) → verdictFrom b n t ≡ verdictFrom c n t
-  unfolding rule1 rule2
-  same-verdictFrom t =
-      in-order b t
-      ∙ ap (λ (a : Answer). rule1 b n orElse rule2 b n orElse rule3 b n orElse rule4 b n orElse rule5 b n orElse a) (orElse-same (rule6 b n) (rules7to16 b t) (rules7to16 c t) (same-rest t))
-      ∙ (rw (same-rule3, same-rule4, same-rule5, same-rule6) (sym (in-order c t)))
+  same-rules : (t : Tally) → rules1to16 n t b ≡ rules1to16 n t c
+  unfolding rules1to16 rule1 rule2
+  same-rules t =
+      ap (λ (a : Answer). rule1 b n orElse rule2 b n orElse rule3 b n orElse rule4 b n orElse rule5 b n orElse a) (orElse-same (rule6 b n) (rules7to16 n t b) (rules7to16 n t c) (same-rest t))
+      ∙ rw (same-rule3, same-rule4, same-rule5, same-rule6)
 
 -- ---- whole products
 
-tally-verdict : (b : List ℕ) → verdict b ≡ verdictFrom b (length b) (tallyOf (statesOf b (directory b)))
-unfolding verdict verdictFrom
-tally-verdict b = refl
+in-order : (b : List ℕ) → verdict b ≡ rules1to16 (length b) (tallyOf (statesOf b (directory b))) b
+unfolding verdict firstRule headerRules rules1to16 rules7to16
+in-order b = simp orElse-assoc
 
 accepted-six : (b : List ℕ) → verdict b ≡ accepted → rule6 b (length b) ≡ accepted
 unfolding verdict firstRule headerRules
@@ -219,9 +219,7 @@ module _ (b c : List ℕ) (long : length b ≡ length c) (same : SameHeaders b c
     (tallies : tallyOf (statesOf b (directory b)) ≡ tallyOf (statesOf c (directory c))) where
   pub same-verdict : verdict b ≡ verdict c
   same-verdict =
-      tally-verdict b
-      ∙ same-verdictFrom b c (length b) same (tallyOf (statesOf b (directory b)))
-      ∙ rw (long, tallies) (sym (tally-verdict c))
+      in-order b ∙ same-rules b c (length b) same (tallyOf (statesOf b (directory b))) ∙ rw (long, tallies) (sym (in-order c))
 
   pub same-directories : directoryFor (verdict b) b ≡ directoryFor (verdict c) c
   same-directories = rw (← same-verdict) (go (verdict b) refl)

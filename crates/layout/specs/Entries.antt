@@ -129,10 +129,6 @@ holds p e = nonEmpty e && (leb (start e) p && ltb p (start e + extent e))
 unfoldable pub shares : Entry → Entry → Bool
 shares e f = nonEmpty e && (nonEmpty f && (ltb (start e) (start f + extent f) && ltb (start f) (start e + extent e)))
 
--- what NUM_DATA_SETS counts: entries of type M, A or G
-unfoldable pub isCounted : Entry → Bool
-isCounted e = isData e
-
 -- ---- variable sets
 
 -- the kind of state whose records a set of this name holds, or 0: 1 nadir, 2 limb, 3 occultation, 4 monitoring

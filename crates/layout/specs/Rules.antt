@@ -12,7 +12,7 @@ use Rattle.layout.specs.Text.{Line, whole, layout}
 use Rattle.layout.specs.Lines.{mph, dsd, spareDsd}
 use Rattle.layout.specs.Answer.{Answer, accepted, refused, none, _orElse_, need, where′, _⇒_}
 use Rattle.layout.specs.Search.{first, some, count, firstRule, laidOut}
-use Rattle.layout.specs.Entries.{Entry, withinZ, eqZ, most, totSize, sphSize, numDsd, dsdSize, numDataSets, headersEnd, entries, dsdAt, dsdBytes, entryAt, directory, at, nonEmpty, start, extent, holds, shares, isCounted, kindOf, isVariable, numbersFit}
+use Rattle.layout.specs.Entries.{Entry, withinZ, eqZ, most, totSize, sphSize, numDsd, dsdSize, numDataSets, headersEnd, entries, dsdAt, dsdBytes, entryAt, directory, at, nonEmpty, start, extent, holds, shares, isData, kindOf, isVariable, numbersFit}
 use Rattle.layout.specs.Sph.{sphLines, line, lineBegins}
 use Rattle.layout.specs.States.{Tally, isStatesAt, statesEntry, stateAt, statesOf, tallyOf, ofKind}
 
@@ -83,11 +83,11 @@ unfoldable pub rule10 : List ℕ → ℕ → Answer
 rule10 b n = first (rule10At b) 0 (entries b)
 
 -- 11: NUM_DATA_SETS is not the number of entries of type M, A or G
-unfoldable pub isCountedAt : List Entry → ℕ → Bool
-isCountedAt ds i = isCounted (at ds i)
+unfoldable pub isDataAt : List Entry → ℕ → Bool
+isDataAt ds i = isData (at ds i)
 
 unfoldable pub dataSets : List Entry → ℕ
-dataSets ds = count (isCountedAt ds) 0 (length ds)
+dataSets ds = count (isDataAt ds) 0 (length ds)
 
 unfoldable pub rule11 : List ℕ → ℕ → Answer
 rule11 b n = need (eqZ (whole (numDataSets b)) (pos (dataSets (directory b)))) 11 1194 none
@@ -155,10 +155,6 @@ headerRules = rule1 ∷ rule2 ∷ rule3 ∷ rule4 ∷ rule5 ∷ rule6 ∷ rule7 
 
 unfoldable pub stateRules : List Entry → Tally → Answer
 stateRules ds t = rule15 ds t orElse rule16 ds t
-
--- from the length, the header bytes and a tally
-unfoldable pub verdictFrom : List ℕ → ℕ → Tally → Answer
-verdictFrom b n t = let states = stateRules (directory b) t in firstRule headerRules b n orElse states
 
 -- the verdict on a product lent whole
 unfoldable pub verdict : List ℕ → Answer

@@ -6,7 +6,7 @@ use mathlib.Core.List.{List, []}
 use mathlib.Core.Path.{_≡_, refl, sym, ap, _∙_, subst}
 use native.Mathlib.Omega.{arith}
 use lib.Dec.{T, ltb, ltb→lt}
-use lib.ListN.{length, take, drop}
+use lib.ListN.{length}
 use Rattle.layout.specs.Bytes.{part}
 use Rattle.layout.specs.Answer.{Answer, accepted, refused, need, Reply, refusal, is, _orElse_, _else_, _before_}
 use Rattle.layout.specs.Entries.{headersEnd, entries, dsdAt, directory, at}
@@ -129,9 +129,9 @@ module _ (b : List ℕ) (r : Place) (a : Reply Span) (answered : placeIs r ≡ a
   pub in-product : Within b a → (p n : ℕ) → r ≡ places.At p n → p + n ≤ length b
   in-product w p n h = w (record { place = p; length = n }) (at-place p n h)
 
-  pub part-is : (p n : ℕ) → r ≡ places.At p n → take (p + n - p) (drop p b) ≡ partOf b a
-  unfolding partOf part
-  part-is p n h = let q : p + n - p ≡ n = omega arith in rw (at-place p n h, q)
+  pub part-is : (p n : ℕ) → r ≡ places.At p n → part b p n ≡ partOf b a
+  unfolding partOf
+  part-is p n h = rw (at-place p n h)
 
   pub no-part : (x : Refusal) → r ≡ places.Refused x → [] ≡ partOf b a
   unfolding partOf
@@ -139,12 +139,10 @@ module _ (b : List ℕ) (r : Place) (a : Reply Span) (answered : placeIs r ≡ a
 
 -- what a call reads of a record: the part that is there, or the place's refusal
 module _ {A : Type 0} (b : List ℕ) (i j : ℕ) (r : Place) (answered : placeIs r ≡ recordPlace b i j) where
-  pub reads-record : (F : List ℕ → Reply A) (p n : ℕ) → r ≡ places.At p n → F (take (p + n - p) (drop p b)) ≡ (recordRefusal b i j before F (recordOf b i j))
-  unfolding part
-  reads-record F p n h =
+  pub reads-record : (F : List ℕ → Reply A) (p n : ℕ) → r ≡ places.At p n → {l : List ℕ} → l ≡ part b p n → F l ≡ (recordRefusal b i j before F (recordOf b i j))
+  reads-record F p n h e =
       let t = record-there b i j (record { place = p; length = n }) (at-place b r (recordPlace b i j) answered p n h) in
-      let q : p + n - p ≡ n = omega arith in
-      rw (t .0, t .1, q)
+      rw (t .0, t .1, e)
 
   pub reads-nothing : (x : Refusal) (y : Reply A) → r ≡ places.Refused x → refusal (x .number) (x .place) (x .entry) ≡ (recordRefusal b i j before y)
   reads-nothing x y h = rw (record-refused b i j (x .number) (x .place) (x .entry) (no-place b r (recordPlace b i j) answered x h))

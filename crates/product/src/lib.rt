@@ -1,5 +1,8 @@
 // The public calls. Each judges the product first, has no `requires`, and its promise is layout's definition on every input.
+ghost use Prim.Native.Nat.{_+_, _≤_};
 ghost use mathlib.Core.Path.{_≡_};
+ghost use lib.ListN.{length};
+ghost use Rattle.layout.specs.Bytes.{part};
 ghost use Rattle.layout.specs.Answers.{verdictIs, placeIs, fieldAnswerIs, pointAnswerIs, headerFor, directoryFor};
 ghost use Rattle.layout.specs.Rules.{verdict};
 ghost use Rattle.layout.specs.Records.{sphPlace, recordPlace, partOf};
@@ -77,16 +80,22 @@ pub fn sph_place(p: &[u8]) -> Place
     }
 }
 
+// The part of a product at a place.
+fn part_at(p: &[u8], place: u64, size: u64) -> &[u8]
+    requires { ⌜ place + size ≤ length (now p) ⌝ }
+    ensures { λ r. ⌜ now r ≡ part (now (p .entry)) place size ⌝ }
+{
+    let start = place as usize;
+    let end = start + size as usize;
+    &p[start..end]
+}
+
 // The SPH lines, or the empty part.
 pub fn sph_part(p: &[u8]) -> &[u8]
     ensures { λ r. ⌜ now r ≡ partOf (now (p .entry)) (sphPlace (now (p .entry))) ⌝ }
 {
     match sph_place(p) {
-        Place::At { place, length } => {
-            let start = place as usize;
-            let end = start + length as usize;
-            &p[start..end]
-        }
+        Place::At { place, length } => { part_at(p, place, length) }
         Place::Refused(_) => &p[..0],
     }
 }
@@ -109,11 +118,7 @@ pub fn record_part(p: &[u8], entry: usize, asked: usize) -> &[u8]
     ensures { λ r. ⌜ now r ≡ partOf (now (p .entry)) (recordPlace (now (p .entry)) entry asked) ⌝ }
 {
     match record_place(p, entry, asked) {
-        Place::At { place, length } => {
-            let start = place as usize;
-            let end = start + length as usize;
-            &p[start..end]
-        }
+        Place::At { place, length } => { part_at(p, place, length) }
         Place::Refused(_) => &p[..0],
     }
 }
@@ -124,9 +129,7 @@ pub fn field_at(p: &[u8], entry: usize, asked: usize, offset: usize, kind: u8) -
 {
     match record_place(p, entry, asked) {
         Place::At { place, length } => {
-            let start = place as usize;
-            let end = start + length as usize;
-            fields::field_in(&p[start..end], entry, offset, kind)
+            fields::field_in(part_at(p, place, length), entry, offset, kind)
         }
         Place::Refused(refusal) => FieldAnswer::Refused(refusal),
     }
@@ -145,9 +148,13 @@ pub fn point_at(
 {
     match record_place(p, entry, asked) {
         Place::At { place, length } => {
-            let start = place as usize;
-            let end = start + length as usize;
-            fields::point_in(&p[start..end], entry, latitude, longitude, altitude)
+            fields::point_in(
+                part_at(p, place, length),
+                entry,
+                latitude,
+                longitude,
+                altitude,
+            )
         }
         Place::Refused(refusal) => PointAnswer::Refused(refusal),
     }

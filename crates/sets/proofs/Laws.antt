@@ -1,21 +1,22 @@
 -- The tests of sets by their numbers, the searches step by step, and the rules by the arrays against the rules over a directory that they hold.
 -- Assumes nothing.
-use Prim.Native.Nat.{ℕ, _+_, _-_, _≤_, _<_}
-use mathlib.Core.Bool.{Bool, true, false, cond, _&&_, not, and-true, and-false}
+use Prim.Native.Nat.{ℕ, zero, suc, _+_, _-_, _≤_, _<_}
+use mathlib.Core.Bool.{Bool, true, false, _&&_, not, and-true, and-false}
 use mathlib.Core.List.{List}
-use mathlib.Core.Logic.{_⊎_, inl, inr}
+use mathlib.Core.Logic.{_⊎_, inl, inr, ⊎-elim}
 use mathlib.Core.Path.{_≡_, refl, sym, ap, _∙_}
 use native.Mathlib.Omega.{arith}
 use native.Mathlib.Nat.{sub-zero}
 use lib.Dec.{T, leb, ltb, eqb}
 use lib.ListN.{length, getD}
-use borrow.Author.Tests.{lt-ltb, le-ltb, le-leb, lt-leb, eq-eqb, ne-eqb, ltb-true, ltb-false, not-true, not-false}
+use borrow.Author.Count.{below-more}
+use borrow.Author.Tests.{lt-ltb, le-ltb, le-leb, lt-leb, eq-eqb, ne-eqb, ltb-true, ltb-false, leb-true, not-true, not-false}
 use Rattle.layout.specs.Answer.{Answer, accepted, refused, none, need}
-use Rattle.layout.specs.Search.{first, some}
+use Rattle.layout.specs.Search.{first, some, find}
 use Rattle.layout.specs.Entries.{Entry, at, holds, shares}
 use Rattle.layout.specs.Rules.{setInside, rule12At, sharesAt, rule13At, holdsAt, rule14At}
-use Rattle.layout.proofs.Laws.{lt-or-le, need-accepts, some-T, some-same, some-step, first-same, first-step, first-skip}
-use Rattle.sets.specs.Sets.{isInside, overlaps, overlapsAt, covers, coversAt, isCovered, restOf, rule12By, rule13By, rule14By, Run, Held, Outside, Overlapping, Uncovered}
+use Rattle.layout.proofs.Laws.{lt-or-le, need-accepts, some-T, some-same, some-step, some-end, first-same, first-step, first-skip, find-at, find-before}
+use Rattle.sets.specs.Sets.{isInside, overlaps, overlapsAt, largest, Between, Clear, covers, coversAt, isCovered, rule12By, rule13By, rule14By, Holding, Held, Outside, Overlapping, Uncovered}
 
 -- ---- one set, and two, by their numbers
 
@@ -69,37 +70,59 @@ module _ (a s b t : ℕ) where
         rw (lt-ltb 0 s (omega arith), lt-ltb 0 t (omega arith), lt-ltb b (a + s) (omega arith), and-true)
         (ltb-same (a - b) t a (b + t) (λ g. omega arith) (λ g. omega arith))
 
+  apart : (0 < s → 0 < t → (a + s ≤ b) ⊎ (b + t ≤ a)) → overlaps a s b t ≡ false
+  unfolding overlaps
+  apart h = go (lt-or-le 0 s) (lt-or-le 0 t)
+    where
+      go : (0 < s) ⊎ (s ≤ 0) → (0 < t) ⊎ (t ≤ 0) → (ltb 0 s && (ltb 0 t && (ltb a (b + t) && ltb b (a + s)))) ≡ false
+      go (inr u) m = rw (le-ltb 0 s u)
+      go (inl u) (inr v) = rw (le-ltb 0 t v, and-false)
+      go (inl u) (inl v) = ⊎-elim (λ w. rw (le-ltb b (a + s) w, and-false, and-false, and-false)) (λ w. rw (le-ltb a (b + t) w, and-false, and-false)) (h u v)
+
+-- a set outside low..high shares no byte with one between them
+module _ (a s low high : ℕ) where
+  pub clear-empty : s ≡ 0 → Clear low high a s
+  unfolding Clear
+  clear-empty e b t w = apart a s b t (λ u v. absurd (omega arith))
+
+  pub clear-below : a < low → leb s (low - a) ≡ true → Clear low high a s
+  unfolding Clear
+  clear-below l e b t w = apart a s b t (λ u v. inl (omega (arith, w .starts v, leb-true s (low - a) e)))
+
+  pub clear-above : high ≤ a → ltb a largest ≡ true → Clear low high a s
+  unfolding Clear
+  clear-above l e b t w = apart a s b t (λ u v. inr (let h = ltb-true a largest e in omega (arith, w .ends v (omega arith))))
+
+-- low and high hold the sets of the entries below i
+pub record Lower (offsets sizes : List ℕ) (i low high : ℕ) : Type 0 where
+  pub each : (j : ℕ) → j < i → Between low high (getD offsets j 0) (getD sizes j 0)
+
 module _ (offset size p : ℕ) where
-  pub rest-before : p < offset → 0 ≡ restOf offset size p
-  unfolding restOf
-  rest-before h = rw (lt-leb offset p h)
+  pub holds-later : p < offset → false ≡ covers p offset size
+  unfolding covers
+  holds-later h = rw (lt-leb offset p h, and-false)
 
-  pub rest-behind : offset ≤ p → size ≤ p - offset → 0 ≡ restOf offset size p
-  unfolding restOf
-  rest-behind h l = rw (le-leb offset p h) (omega arith)
-
-  pub rest-inside : offset ≤ p → p - offset < size → size - (p - offset) ≡ restOf offset size p
-  unfolding restOf
-  rest-inside h l = rw (le-leb offset p h) (omega arith)
-
-  -- each byte of the rest is in the set; without a rest p is not in it
-  rest-covers : (k : ℕ) → p ≤ k → k < p + restOf offset size p → T (covers k offset size)
-  unfolding restOf covers
-  rest-covers k l u = go (lt-or-le p offset) u
+  pub holds-rest : offset ≤ p → ltb (p - offset) size ≡ covers p offset size
+  unfolding covers
+  holds-rest h = go (lt-or-le 0 size)
     where
-      go : (p < offset) ⊎ (offset ≤ p) → k < p + cond (leb offset p) (offset + size - p) 0 → T (ltb 0 size && (leb offset k && ltb k (offset + size)))
-      go (inl h) v = absurd (let w = rw (lt-leb offset p h) at v in omega arith)
-      go (inr h) v =
-          let w = rw (le-leb offset p h) at v in
-          rw (lt-ltb 0 size (omega arith), le-leb offset k (omega arith), lt-ltb k (offset + size) (omega arith)) tt
+      go : (0 < size) ⊎ (size ≤ 0) → ltb (p - offset) size ≡ (ltb 0 size && (leb offset p && ltb p (offset + size)))
+      go (inl l) = rw (lt-ltb 0 size l, le-leb offset p h) (ltb-same (p - offset) size p (offset + size) (λ g. omega arith) (λ g. omega arith))
+      go (inr l) = rw (le-ltb 0 size l) (le-ltb (p - offset) size (omega arith))
 
-  rest-none : restOf offset size p ≡ 0 → covers p offset size ≡ false
-  unfolding restOf covers
-  rest-none e = go (lt-or-le p offset) e
+  holds-between : T (covers p offset size) → (offset ≤ p) × (p < offset + size)
+  unfolding covers
+  holds-between t = go (lt-or-le p offset) (lt-or-le (offset + size) (p + 1)) t
     where
-      go : (p < offset) ⊎ (offset ≤ p) → cond (leb offset p) (offset + size - p) 0 ≡ 0 → (ltb 0 size && (leb offset p && ltb p (offset + size))) ≡ false
-      go (inl h) v = rw (lt-leb offset p h, and-false)
-      go (inr h) v = let w = rw (le-leb offset p h) at v in rw (le-ltb p (offset + size) (omega arith), and-false, and-false)
+      go : (p < offset) ⊎ (offset ≤ p) → (offset + size < p + 1) ⊎ (p + 1 ≤ offset + size) → T (ltb 0 size && (leb offset p && ltb p (offset + size))) → (offset ≤ p) × (p < offset + size)
+      go (inl h) m u = absurd (rw (lt-leb offset p h, and-false) at u)
+      go (inr h) (inl l) u = absurd (rw (le-ltb p (offset + size) (omega arith), and-false, and-false) at u)
+      go (inr h) (inr l) u = (h, omega arith)
+
+-- a set holds each byte from its first to its last
+holds-each : (offset size k : ℕ) → offset ≤ k → k < offset + size → T (covers k offset size)
+unfolding covers
+holds-each offset size k l u = rw (lt-ltb 0 size (omega arith), le-leb offset k l, lt-ltb k (offset + size) u) tt
 
 -- ---- a search for a refusal, step by step: what is left of it from k on is the whole
 
@@ -125,6 +148,12 @@ module _ (t : ℕ → Bool) (n k : ℕ) (so : some t 0 n ≡ some t k (n - k)) w
   pub some-none : n ≤ k → some t 0 n ≡ false
   unfolding some
   some-none h = let q : n - k ≡ 0 = omega arith in so ∙ rw q
+
+-- none of the n numbers from i on passes
+some-false : (t : ℕ → Bool) (i n : ℕ) → ((k : ℕ) → i ≤ k → k < i + n → t k ≡ false) → some t i n ≡ false
+unfolding some
+some-false t i zero h = refl
+some-false t i (suc n) h = rw (h i (omega arith) (omega arith), some-false t (suc i) n (λ k l u. h k (omega arith) (omega arith)))
 
 -- ---- the rules over a directory that the arrays hold
 
@@ -187,21 +216,38 @@ module _ (offsets sizes : List ℕ) where
   unfolding rule13By
   overlaps-none i e = rw e
 
-  -- the rest of a set from p on: each of its bytes is in a set
-  pub run-hit : (n p i : ℕ) → i < n → 0 < restOf (getD offsets i 0) (getD sizes i 0) p → Run offsets sizes n p (restOf (getD offsets i 0) (getD sizes i 0) p)
-  unfolding isCovered coversAt
-  run-hit n p i h l = record {
-    each = λ k v u. some-T (coversAt offsets sizes k) n .1 (i, h, rest-covers (getD offsets i 0) (getD sizes i 0) p k v u);
-    stuck = λ q. absurd (omega arith);
+  -- where low and high hold all lower sets, a set that is clear of them shares no byte with a lower one; wider bounds hold it too
+  module _ (i low high : ℕ) (lower : Lower offsets sizes i low high) where
+    pub none-shares : Clear low high (getD offsets i 0) (getD sizes i 0) → some (overlapsAt offsets sizes i) 0 i ≡ some (overlapsAt offsets sizes i) i (i - i)
+    unfolding Clear overlapsAt
+    none-shares h = some-false (overlapsAt offsets sizes i) 0 i (λ j l u. h _ _ (lower .each j (omega arith))) ∙ sym (some-end (overlapsAt offsets sizes i) i)
+
+    pub one-more : (l h : ℕ) → (l ≤ low) × (0 < getD sizes i 0 → l ≤ getD offsets i 0) → (high ≤ h) × (0 < getD sizes i 0 → h < largest → getD offsets i 0 + getD sizes i 0 ≤ h)
+        → Lower offsets sizes (i + 1) l h
+    one-more l h m n = record {
+      each =
+          below-more _ i (λ j u. let w = lower .each j u in record { starts = λ v. omega (arith, w .starts v, m .0); ends = λ v x. omega (arith, w .ends v (omega (arith, n .0)), n .0) })
+          (record { starts = m .1; ends = n .1 });
+    }
+
+  -- a search for a set that holds p found one; the two from f on and before f found none
+  pub holding-found : (n p f m r : ℕ) → f ≤ m → m ≤ n → r ≡ find (coversAt offsets sizes p) f (m - f) → r < m → Holding offsets sizes n p r
+  unfolding coversAt
+  holding-found n p f m r l u e h = record {
+    within = omega arith;
+    found = λ _. holds-between (getD offsets r 0) (getD sizes r 0) p (rw e (find-at (coversAt offsets sizes p) f (m - f) (omega arith)));
+    missed = λ q. absurd (omega arith);
   }
 
-  pub run-none : (n p : ℕ) → some (coversAt offsets sizes p) 0 n ≡ false → Run offsets sizes n p 0
+  pub holding-none : (n p f r q : ℕ) → r ≡ find (coversAt offsets sizes p) f (n - f) → n ≤ r → q ≡ find (coversAt offsets sizes p) 0 (f - 0) → f ≤ q → Holding offsets sizes n p n
   unfolding isCovered
-  run-none n p e = record { each = λ k v u. absurd (omega arith); stuck = λ q. e }
-
-  pub not-covered : (p i : ℕ) → restOf (getD offsets i 0) (getD sizes i 0) p ≡ 0 → coversAt offsets sizes p i ≡ false
-  unfolding coversAt
-  not-covered p i e = rest-none (getD offsets i 0) (getD sizes i 0) p e
+  holding-none n p f r q e h d g = record {
+    within = omega arith;
+    found = λ q. absurd (omega arith);
+    missed = λ _. some-false (coversAt offsets sizes p) 0 n (λ k w u. ⊎-elim
+        (λ v. find-before (coversAt offsets sizes p) 0 (f - 0) k (omega arith) (omega arith))
+        (λ v. find-before (coversAt offsets sizes p) f (n - f) k v (omega arith)) (lt-or-le k f));
+  }
 
   pub byte-uncovered : (n p : ℕ) → isCovered offsets sizes n p ≡ false → rule14By offsets sizes n p ≡ refused 14 p none
   unfolding rule14By
@@ -211,7 +257,10 @@ module _ (offsets sizes : List ℕ) where
   unfolding rule14By
   byte-covered n p t = need-accepts (isCovered offsets sizes n p) 14 p none .1 t
 
-  -- what is left of the search for a byte in no set, behind a run of bytes in sets or a part of it
-  pub run-jump : (entries h n p r : ℕ) → first (rule14By offsets sizes entries) h (n - h) ≡ first (rule14By offsets sizes entries) p (n - p) → Run offsets sizes entries p r
-      → (j : ℕ) → p ≤ j → j ≤ n → j ≤ p + r → first (rule14By offsets sizes entries) h (n - h) ≡ first (rule14By offsets sizes entries) j (n - j)
-  run-jump entries h n p r so run j l u v = so ∙ first-skip (rule14By offsets sizes entries) p j n l u (λ k x y. byte-covered entries k (run .each k x (omega arith)))
+  -- what is left of the search for a byte in no set, behind the rest of a set that holds p or a part of it
+  pub jump : (entries h n p i : ℕ) → first (rule14By offsets sizes entries) h (n - h) ≡ first (rule14By offsets sizes entries) p (n - p) → i < entries → getD offsets i 0 ≤ p
+      → (j : ℕ) → p ≤ j → j ≤ n → j ≤ getD offsets i 0 + getD sizes i 0 → first (rule14By offsets sizes entries) h (n - h) ≡ first (rule14By offsets sizes entries) j (n - j)
+  unfolding isCovered coversAt
+  jump entries h n p i so e o j l u v =
+      so ∙ first-skip (rule14By offsets sizes entries) p j n l u
+      (λ k x y. byte-covered entries k (some-T (coversAt offsets sizes k) entries .1 (i, e, holds-each (getD offsets i 0) (getD sizes i 0) k (omega arith) (omega arith))))

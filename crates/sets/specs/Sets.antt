@@ -1,8 +1,8 @@
 -- Rules 12 to 14 over arrays of offsets and sizes: the tests of one set and of two by their numbers, and what the searches answer of any directory
 -- that the arrays hold.
 -- Assumes nothing.
-use Prim.Native.Nat.{ℕ, _+_, _-_, _≤_, _<_}
-use mathlib.Core.Bool.{Bool, false, cond, _&&_, not}
+use Prim.Native.Nat.{ℕ, _+_, _-_, _^_, _≤_, _<_}
+use mathlib.Core.Bool.{Bool, false, _&&_, not}
 use mathlib.Core.List.{List}
 use mathlib.Core.Path.{_≡_}
 use lib.Dec.{T, leb, ltb, eqb}
@@ -36,10 +36,6 @@ coversAt offsets sizes p i = covers p (getD offsets i 0) (getD sizes i 0)
 unfoldable pub isCovered : List ℕ → List ℕ → ℕ → ℕ → Bool
 isCovered offsets sizes n p = some (coversAt offsets sizes p) 0 n
 
--- the bytes of a set from p on, if it starts no later
-unfoldable pub restOf : ℕ → ℕ → ℕ → ℕ
-restOf offset size p = cond (leb offset p) (offset + size - p) 0
-
 -- the rules at one entry or one byte, by the arrays
 unfoldable pub rule12By : List ℕ → List ℕ → ℕ → ℕ → ℕ → Answer
 rule12By offsets sizes h n i = need (isInside h n (getD offsets i 0) (getD sizes i 0)) 12 (getD offsets i 0) i
@@ -52,10 +48,24 @@ rule14By offsets sizes n p = need (isCovered offsets sizes n p) 14 p none
 
 -- ---- what the searches answer
 
--- the r bytes from p on are each in a set; there are none only if p is in no set
-pub record Run (offsets sizes : List ℕ) (n p r : ℕ) : Type 0 where
-  pub each : (k : ℕ) → p ≤ k → k < p + r → T (isCovered offsets sizes n k)
-  pub stuck : r ≡ 0 → isCovered offsets sizes n p ≡ false
+-- the largest number of 64 bits
+abbrev pub largest : ℕ
+largest = 2 ^ 64 - 1
+
+-- a set of one byte or more lies between low and high; a high of the largest number stands for any end that is not below it
+pub record Between (low high offset size : ℕ) : Type 0 where
+  pub starts : 0 < size → low ≤ offset
+  pub ends : 0 < size → high < largest → offset + size ≤ high
+
+-- this set shares no byte with any set between low and high
+unfoldable pub Clear : ℕ → ℕ → ℕ → ℕ → Type 0
+Clear low high offset size = (b t : ℕ) → Between low high b t → overlaps offset size b t ≡ false
+
+-- r is an entry whose set holds the byte p, or the number n of entries where none does
+pub record Holding (offsets sizes : List ℕ) (n p r : ℕ) : Type 0 where
+  pub within : r ≤ n
+  pub found : r < n → (getD offsets r 0 ≤ p) × (p < getD offsets r 0 + getD sizes r 0)
+  pub missed : n ≤ r → isCovered offsets sizes n p ≡ false
 
 -- the arrays hold the offsets and sizes of a directory in which only entries with a set have a size, as rules 8 and 10 demand
 pub record Held (ds : List Entry) (offsets sizes : List ℕ) : Type 0 where

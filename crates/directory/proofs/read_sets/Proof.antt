@@ -13,8 +13,8 @@ use lib.IntN.{pos}
 use Rattle.layout.specs.Answer.{need}
 use Rattle.layout.specs.Answers.{verdictIs, padded, typeOf, countOf, recordSizeOf}
 use Rattle.layout.specs.Search.{first, count}
-use Rattle.layout.specs.Entries.{directory, entryAt, start, extent, numbersFit, isCounted}
-use Rattle.layout.specs.Rules.{rule9At, rule10At, isCountedAt}
+use Rattle.layout.specs.Entries.{directory, entryAt, start, extent, numbersFit, isData}
+use Rattle.layout.specs.Rules.{rule9At, rule10At, isDataAt}
 use Rattle.layout.proofs.Laws.{accepted≢refused}
 use Rattle.directory.specs.Held.{viewOf, roleOf}
 use Rattle.directory.specs.Checks.{entriesTo}
@@ -30,7 +30,7 @@ Inv-loop p dsds entries types₀ offsets₀ sizes₀ counts₀ record-sizes₀ r
     × (fitting ≤ i)
     × (first (rule10At p) 0 i ≡ need (eqb fitting i) 10 (dsds + 280 * fitting) fitting)
     × (counted ≤ i)
-    × (counted ≡ count (isCountedAt (directory p)) 0 i)
+    × (counted ≡ count (isDataAt (directory p)) 0 i)
     × (types ≡ padded 128 0 (map typeOf (entriesTo p i)))
     × (offsets ≡ padded 128 0 (map start (entriesTo p i)))
     × (sizes ≡ padded 128 0 (map extent (entriesTo p i)))
@@ -49,7 +49,7 @@ loop-holds c = (
   omega arith,
   none-first (rule10At (c .before .args .p .now)) (c .before .args .dsds),
   omega arith,
-  none-counted (isCountedAt (directory (c .before .args .p .now))),
+  none-counted (isDataAt (directory (c .before .args .p .now))),
   none-held typeOf 0 (c .before .args .p .now),
   none-held start 0 (c .before .args .p .now),
   none-held extent 0 (c .before .args .p .now),
@@ -147,9 +147,9 @@ fits-next c =
     (ten (c .before .before .before .before .before .before .before .before .before .before .args .p .now) (c .before .before .before .before .before .before .before .before .before .before .args .dsds) (c .before .before .before .before .before .before .before .before .before .before .args .entries) (c .before .before .before .before .before .before .before .before .loop .i) (c .before .before .before .before .before .before .before .before .before .before .pre) ∙ rw (← turn-here c .fits))
     (c .before .fitting-with .ensures)
 
-counts-next : (c : tie.After-counted-with Inv-loop μ-loop) → (c .counted-with .result ≡ count (isCountedAt (directory (c .before .before .before .before .before .before .before .before .before .before .args .p .now))) 0 (c .before .before .before .before .before .before .before .before .loop .i + 1)) × (c .counted-with .result ≤ c .before .before .before .before .before .before .before .before .loop .i + 1)
+counts-next : (c : tie.After-counted-with Inv-loop μ-loop) → (c .counted-with .result ≡ count (isDataAt (directory (c .before .before .before .before .before .before .before .before .before .before .args .p .now))) 0 (c .before .before .before .before .before .before .before .before .loop .i + 1)) × (c .counted-with .result ≤ c .before .before .before .before .before .before .before .before .loop .i + 1)
 counts-next c =
-    eleven-next (c .before .before .before .before .before .before .before .before .before .before .args .p .now) (c .before .before .before .before .before .before .before .before .loop .counted) (c .before .before .before .before .before .before .before .before .loop .i) (isCounted (viewOf (c .before .before .before .before .before .before .at .result))) (omega (arith, c .before .before .before .before .before .before .before .before .before .before .pre .all)) (c .before .before .before .before .before .before .before .before .loop .inv .5) (c .before .before .before .before .before .before .before .before .loop .inv .4) (turn-here c .counted)
+    eleven-next (c .before .before .before .before .before .before .before .before .before .before .args .p .now) (c .before .before .before .before .before .before .before .before .loop .counted) (c .before .before .before .before .before .before .before .before .loop .i) (isData (viewOf (c .before .before .before .before .before .before .at .result))) (omega (arith, c .before .before .before .before .before .before .before .before .before .before .pre .all)) (c .before .before .before .before .before .before .before .before .loop .inv .5) (c .before .before .before .before .before .before .before .before .loop .inv .4) (turn-here c .counted)
     (c .counted-with .ensures)
 
 loop-again : tie.Need-loop-again Inv-loop μ-loop

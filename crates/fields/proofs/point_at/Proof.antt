@@ -1,14 +1,28 @@
 -- `fields::point_at` meets its contract: 21 of latitude, then of longitude, then the point. Assumes nothing.
-use mathlib.Core.Path.{ap, _∙_}
+use mathlib.Core.Bool.{true}
+use mathlib.Core.Path.{_≡_, ap, _∙_}
 use borrow.Author.Needs.{needs, sfits-of}
 use borrow.Author.Tests.{not-true, not-false}
+use mir.Syntax.{w64}
+use mir.Val.{toZ, ofZ}
 use mir.Facts.{toZ-ofZ}
-use Rattle.layout.specs.Fields.{degrees, metres}
+use Rattle.layout.specs.Bytes.{signedAt}
+use Rattle.layout.specs.Fields.{degrees, metres, inLimits}
 use Rattle.layout.specs.Answers.{pointAnswerIs}
 use Rattle.fields.proofs.Limits.{tested}
 use Rattle.fields.proofs.Points.{latitude-out, longitude-out, found}
 use Rattle.fields.proofs.point_at.Statement.{statement}
 use Rattle.fields.proofs.point_at.Tie as tie
+
+-- the two angles as read, and the first within its limits
+north : (c : tie.After-signed) → toZ w64 (ofZ w64 (c .signed .result)) ≡ signedAt (c .before .before .args .bytes .now) (c .before .before .args .latitude) 4
+north c = toZ-ofZ (sfits-of (c .signed .ok)) ∙ c .signed .ensures .0
+
+east : (c : tie.After-signed2) → toZ w64 (ofZ w64 (c .signed2 .result)) ≡ signedAt (c .before .before .before .before .before .args .bytes .now) (c .before .before .before .before .before .args .longitude) 4
+east c = toZ-ofZ (sfits-of (c .signed2 .ok)) ∙ c .signed2 .ensures .0
+
+north-within : (c : tie.Else1) → inLimits 90000000 (signedAt (c .before .before .before .before .args .bytes .now) (c .before .before .before .before .args .latitude) 4) ≡ true
+north-within c = tested 90000000 (north (c .before .before)) (c .before .in-limits .ensures) (not-false _ (c .if1 .left))
 
 signed-requires : tie.Need-signed-requires
 signed-requires c κs = search needs
@@ -22,13 +36,8 @@ refused-point-requires c κs = search needs
 returns : tie.Need-returns
 returns c =
     let l = c .before .before in
-    let n = l .before in
-    let s = n .before .before in
-    let a = s .args in
-    let p = s .pre in
-    let north = toZ-ofZ (sfits-of (n .signed .ok)) ∙ n .signed .ensures .0 in
-    c .refused-point .ensures
-    ∙ latitude-out (a .bytes .now) (a .entry) (a .latitude) (a .longitude) (a .altitude) (p .0) (p .1) (p .2) (tested 90000000 north (l .in-limits .ensures) (not-true _ (c .before .if1 .taken)))
+    let p = l .before .before .before .pre in
+    c .refused-point .ensures ∙ latitude-out _ _ _ _ _ (p .0) (p .1) (p .2) (tested 90000000 (north (l .before)) (l .in-limits .ensures) (not-true _ (c .before .if1 .taken)))
 
 signed-requires-2 : tie.Need-signed-requires-2
 signed-requires-2 c κs = search needs
@@ -42,16 +51,10 @@ refused-point-requires-2 c κs = search needs
 returns-2 : tie.Need-returns-2
 returns-2 c =
     let m = c .before .before in
-    let e = m .before in
-    let l = e .before .before in
-    let n = l .before in
-    let s = n .before .before in
-    let a = s .args in
-    let p = s .pre in
-    let north = toZ-ofZ (sfits-of (n .signed .ok)) ∙ n .signed .ensures .0 in
-    let east = toZ-ofZ (sfits-of (e .signed2 .ok)) ∙ e .signed2 .ensures .0 in
+    let n = m .before .before in
+    let p = n .before .before .before .before .pre in
     c .refused-point2 .ensures
-    ∙ longitude-out (a .bytes .now) (a .entry) (a .latitude) (a .longitude) (a .altitude) (p .0) (p .1) (p .2) (tested 90000000 north (l .in-limits .ensures) (not-false _ (e .before .if1 .left))) (tested 180000000 east (m .in-limits2 .ensures) (not-true _ (c .before .if2 .taken)))
+    ∙ longitude-out _ _ _ _ _ (p .0) (p .1) (p .2) (north-within n) (tested 180000000 (east (m .before)) (m .in-limits2 .ensures) (not-true _ (c .before .if2 .taken)))
 
 unsigned-requires : tie.Need-unsigned-requires
 unsigned-requires c κs = search needs
@@ -80,22 +83,16 @@ returns-3 c =
     let d = c .before .before in
     let u = d .before in
     let m = u .before .before in
-    let e = m .before in
-    let l = e .before .before in
-    let n = l .before in
-    let s = n .before .before in
-    let a = s .args in
-    let p = s .pre in
-    let north = toZ-ofZ (sfits-of (n .signed .ok)) ∙ n .signed .ensures .0 in
-    let east = toZ-ofZ (sfits-of (e .signed2 .ok)) ∙ e .signed2 .ensures .0 in
-    found (a .bytes .now) (a .entry) (a .latitude) (a .longitude) (a .altitude) (p .0) (p .1) (p .2)
-    (tested 90000000 north (l .in-limits .ensures) (not-false _ (e .before .if1 .left)))
-    (tested 180000000 east (m .in-limits2 .ensures) (not-false _ (u .before .if2 .left)))
+    let n = m .before .before in
+    let p = n .before .before .before .before .pre in
+    found _ _ _ _ _ (p .0) (p .1) (p .2)
+    (north-within n)
+    (tested 180000000 (east (m .before)) (m .in-limits2 .ensures) (not-false _ (u .before .if2 .left)))
     _
     _
     _
-    (d .degrees .ensures ∙ ap degrees (toZ-ofZ (cast-degrees u) ∙ north))
-    (c .before .degrees2 .ensures ∙ ap degrees (toZ-ofZ (cast-degrees-2 d) ∙ east))
+    (d .degrees .ensures ∙ ap degrees (toZ-ofZ (cast-degrees u) ∙ north (n .before .before)))
+    (c .before .degrees2 .ensures ∙ ap degrees (toZ-ofZ (cast-degrees-2 d) ∙ east (m .before)))
     (c .metres .ensures ∙ ap metres (u .unsigned .ensures .0))
 
 pub point-at-spec : {M : Type 1} → statement M

@@ -1,14 +1,10 @@
 -- `product::record_part` meets its contract.
 -- Assumes nothing.
-use mathlib.Core.Path.{_≡_, sym, ap, _∙_}
-use native.Mathlib.Omega.{arith}
-use Rattle.product.proofs.Calls.{in-product, part-is, no-part, record-within}
+use mathlib.Core.Path.{_∙_}
 use borrow.Author.Needs.{needs}
+use Rattle.product.proofs.Calls.{in-product, part-is, no-part, record-within}
 use Rattle.product.proofs.record_part.Statement.{statement}
 use Rattle.product.proofs.record_part.Tie as tie
-use Rattle.product.proofs.record_part.Reads as reads
-use Rattle.product.proofs.record_part.Lts as lts
-use Rattle.product.proofs.record_place.Reads as record-place-reads
 
 record-place-requires : tie.Need-record-place-requires
 record-place-requires c κs = search needs
@@ -16,17 +12,8 @@ record-place-requires c κs = search needs
 enum-known-place : tie.Need-enum-known-place
 enum-known-place c = search needs
 
-add-end : tie.Need-add-end
-add-end c = omega (arith, in-product (c .before .before .before .before .before .args .p .now) _ _ (c .before .before .before .record-place .ensures) (record-within _ _ _) _ _ (c .before .place .given .1))
-
-sub-result : tie.Need-sub-result
-sub-result c = search needs
-
-part-result-start : tie.Need-part-result-start
-part-result-start c = search needs
-
-part-result-end : tie.Need-part-result-end
-part-result-end c = in-product (c .before .before .before .before .before .args .p .now) _ _ (c .before .before .before .record-place .ensures) (record-within _ _ _) _ _ (c .before .place .given .1)
+part-at-requires : tie.Need-part-at-requires
+part-at-requires c κs = in-product (c .before .before .before .before .before .args .p .now) _ _ (c .before .before .before .record-place .ensures) (record-within _ _ _) _ _ (c .before .place .given .1)
 
 enum-told : tie.Need-enum-told
 enum-told c = search needs
@@ -35,7 +22,7 @@ slice-aggregate-result : tie.Need-slice-aggregate-result
 slice-aggregate-result c = search needs
 
 returns : tie.Need-returns
-returns c = part-is _ _ _ (c .before .before .before .before .record-place .ensures) _ _ (c .before .before .place .given .1)
+returns c = c .part-at .ensures ∙ part-is _ _ _ (c .before .before .before .before .record-place .ensures) _ _ (c .before .before .place .given .1)
 
 returns-2 : tie.Need-returns-2
 returns-2 c = no-part _ _ _ (c .before .before .before .record-place .ensures) _ (c .before .enum-told .given .1)
@@ -46,10 +33,7 @@ record-part-spec =
     (tie.spec
     record-place-requires
     enum-known-place
-    add-end
-    sub-result
-    part-result-start
-    part-result-end
+    part-at-requires
     enum-told
     slice-aggregate-result
     returns

@@ -2,7 +2,6 @@
 -- Assumes nothing.
 use mathlib.Core.Path.{sym, _∙_}
 use native.Mathlib.Nat.{add-zero}
-use Rattle.layout.specs.Entries.{isCounted}
 use borrow.Author.Needs.{needs}
 use Rattle.directory.proofs.Entry.counted_with.Statement.{statement}
 use Rattle.directory.proofs.Entry.counted_with.Tie as tie
@@ -14,11 +13,9 @@ add-result : tie.Need-add-result
 add-result c = search needs
 
 returns : tie.Need-returns
-unfolding isCounted
 returns c = rw (sym (c .before .is-data .ensures) ∙ c .if1 .taken)
 
 returns-2 : tie.Need-returns-2
-unfolding isCounted
 returns-2 c = rw (sym (c .before .is-data .ensures) ∙ c .if1 .left) (sym (add-zero (c .before .before .args .counted)))
 
 pub counted-with-spec : {M : Type 1} → statement M
