@@ -51,7 +51,7 @@ pub fn put_words(room: &mut [u64], at: usize, words: &[u64]) -> usize
 }
 
 // Bytes, each in a word of its own.
-fn put_bytes(room: &mut [u64], at: usize, bytes: &[u8]) -> usize
+pub fn put_bytes(room: &mut [u64], at: usize, bytes: &[u8]) -> usize
     requires { ⌜ at + length (now bytes) ≤ length (now room) ⌝ }
     ensures { λ r. ⌜ Put (length (now (bytes .entry))) (now (bytes .entry)) (now (room .entry)) (now (room .exit)) at r ⌝ }
 {

@@ -1,0 +1,35 @@
+-- `vectors::show_fields` is safe and ends.
+-- Assumes nothing.
+use Prim.Native.Nat.{_-_, _≤_}
+use native.Mathlib.Omega.{arith}
+use Rattle.vectors.proofs.show_fields.Statement.{statement}
+use Rattle.vectors.proofs.show_fields.Tie as tie
+
+abbrev Inv-loop : tie.InvT-loop
+Inv-loop p entry asked kind₀ kind = kind ≤ 11
+
+abbrev μ-loop : tie.MeasureT-loop
+μ-loop p entry asked kind₀ kind = 11 - kind
+
+loop-holds : tie.Need-loop-holds Inv-loop μ-loop
+loop-holds c = omega arith
+
+show-field-requires : tie.Need-show-field-requires Inv-loop μ-loop
+show-field-requires c κs = tt
+
+add-kind : tie.Need-add-kind Inv-loop μ-loop
+add-kind c = omega arith
+
+loop-less : tie.Need-loop-less Inv-loop μ-loop
+loop-less c = omega arith
+
+loop-again : tie.Need-loop-again Inv-loop μ-loop
+loop-again c = omega arith
+
+returns : tie.Need-returns Inv-loop μ-loop
+returns c = tt
+
+pub show-fields-spec : {M : Type 1} → statement M
+show-fields-spec =
+    tie.close
+    (tie.spec Inv-loop μ-loop loop-holds show-field-requires add-kind loop-less loop-again returns)

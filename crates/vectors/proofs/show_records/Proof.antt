@@ -1,0 +1,56 @@
+-- `vectors::show_records` is safe and ends.
+-- Assumes nothing.
+use Prim.Native.Nat.{_-_, _≤_}
+use native.Mathlib.Omega.{arith}
+use borrow.Author.Needs.{needs}
+use Rattle.vectors.proofs.show_records.Statement.{statement}
+use Rattle.vectors.proofs.show_records.Tie as tie
+
+abbrev Inv-loop : tie.InvT-loop
+Inv-loop p entry count asked₀ asked = asked ≤ 41
+
+abbrev μ-loop : tie.MeasureT-loop
+μ-loop p entry count asked₀ asked = 41 - asked
+
+loop-holds : tie.Need-loop-holds Inv-loop μ-loop
+loop-holds c = omega arith
+
+show-record-requires : tie.Need-show-record-requires Inv-loop μ-loop
+show-record-requires c κs = search needs
+
+show-fields-requires : tie.Need-show-fields-requires Inv-loop μ-loop
+show-fields-requires c κs = search needs
+
+show-point-requires : tie.Need-show-point-requires Inv-loop μ-loop
+show-point-requires c κs = search needs
+
+show-point-requires-2 : tie.Need-show-point-requires-2 Inv-loop μ-loop
+show-point-requires-2 c κs = search needs
+
+add-asked : tie.Need-add-asked Inv-loop μ-loop
+add-asked c = omega arith
+
+loop-less : tie.Need-loop-less Inv-loop μ-loop
+loop-less c = omega arith
+
+loop-again : tie.Need-loop-again Inv-loop μ-loop
+loop-again c = omega arith
+
+returns : tie.Need-returns Inv-loop μ-loop
+returns c = tt
+
+pub show-records-spec : {M : Type 1} → statement M
+show-records-spec =
+    tie.close
+    (tie.spec
+    Inv-loop
+    μ-loop
+    loop-holds
+    show-record-requires
+    show-fields-requires
+    show-point-requires
+    show-point-requires-2
+    add-asked
+    loop-less
+    loop-again
+    returns)

@@ -1,0 +1,304 @@
+// What every public call answers for stored products, as the words, texts and doubles that `host` writes: a line for each call.
+// The twin has printed what must come out.
+ghost use mathlib.Core.Path.{_≡_};
+ghost use Prim.Native.Nat.{_≤_};
+ghost use lib.ListN.{length};
+use libc::STDOUT_FILENO;
+use writing::put_number;
+use writing::put_text;
+
+// What follows a number of a line.
+fn end_of(is_last: bool) -> u8 {
+    if is_last { b'\n' } else { b' ' }
+}
+
+// A line of a call's name and numbers.
+fn print_words(name: &[u8], words: &[u64])
+    requires { ⌜ (length (now name) ≤ 64) × (length (now words) ≤ 40) ⌝ }
+{
+    let mut out = [0u8; 1024];
+    let mut next = put_text(&mut out, 0, name);
+    let mut i = 0;
+    while i < words.len() {
+        let end = end_of(words.len() - i == 1);
+        next = put_number(&mut out, next, words[i], end);
+        i += 1;
+    }
+    io::write_all(STDOUT_FILENO, &out[..next]);
+}
+
+// A line of a name and a text as it is.
+fn print_text(name: &[u8], text: &[u8])
+    requires { ⌜ (length (now name) ≤ 64) × (length (now text) ≤ 512) ⌝ }
+{
+    let mut out = [0u8; 1024];
+    let named = put_text(&mut out, 0, name);
+    let shown = put_text(&mut out, named, text);
+    let ended = put_text(&mut out, shown, b"\n");
+    io::write_all(STDOUT_FILENO, &out[..ended]);
+}
+
+// The same with a number before the text.
+fn print_numbered(name: &[u8], number: u64, text: &[u8])
+    requires { ⌜ (length (now name) ≤ 64) × (length (now text) ≤ 512) ⌝ }
+{
+    let mut out = [0u8; 1024];
+    let named = put_text(&mut out, 0, name);
+    let numbered = put_number(&mut out, named, number, b' ');
+    let shown = put_text(&mut out, numbered, text);
+    let ended = put_text(&mut out, shown, b"\n");
+    io::write_all(STDOUT_FILENO, &out[..ended]);
+}
+
+// One entry: its numbers, its name and its FILENAME.
+fn show_entry(words: &[u64], texts: &[u8], i: usize)
+    requires { ⌜ (i ≤ 127) × ((length (now words) ≡ 644) × (length (now texts) ≡ 11520)) ⌝ }
+{
+    let numbers = [
+        i as u64,
+        words[4 + i],
+        words[132 + i],
+        words[260 + i],
+        words[388 + i],
+        words[516 + i],
+    ];
+    print_words(b"entry ", &numbers);
+    let name = 28 * i;
+    let name_end = name + 28;
+    print_numbered(b"name ", i as u64, &texts[name..name_end]);
+    let filename = 3584 + 62 * i;
+    let filename_end = filename + 62;
+    print_numbered(b"filename ", i as u64, &texts[filename..filename_end]);
+}
+
+// The directory, and how many entries it has.
+fn show_directory(p: &[u8]) -> [u64; 644] {
+    let mut words = [0u64; 644];
+    let mut texts = [0u8; 11520];
+    host::ambrothel_open_directory(p, &mut words, &mut texts);
+    let head = [words[0], words[1], words[2], words[3]];
+    print_words(b"directory ", &head);
+    let mut i = 0;
+    while i < 128 {
+        if (i as u64) < words[3] {
+            show_entry(&words, &texts, i);
+        }
+        i += 1;
+    }
+    words
+}
+
+fn show_header(p: &[u8]) {
+    let mut words = [0u64; 25];
+    let mut texts = [0u8; 289];
+    host::ambrothel_header_values(p, &mut words, &mut texts);
+    print_words(b"header ", &words);
+    if words[0] == 0 {
+        print_text(b"texts ", &texts);
+    } else {
+        print_text(b"texts ", b"");
+    }
+}
+
+fn at_most_16(size: u64) -> usize
+    ensures { λ r. ⌜ r ≤ 16 ⌝ }
+{
+    if size < 16 { size as usize } else { 16 }
+}
+
+// A part's size and at most 16 of its bytes, behind the first `at` numbers of a line.
+fn print_part(name: &[u8], numbers: [u64; 20], at: usize, size: u64, bytes: &[u8])
+    requires { ⌜ (length (now name) ≤ 64) × ((at ≤ 2) × (16 ≤ length (now bytes))) ⌝ }
+{
+    let mut line = numbers;
+    line[at] = size;
+    let shown = at_most_16(size);
+    let end = words::put_bytes(&mut line, at + 1, &bytes[..shown]);
+    print_words(name, &line[..end]);
+}
+
+fn show_sph(p: &[u8]) {
+    let mut place = [0u64; 5];
+    host::ambrothel_sph_place(p, &mut place);
+    print_words(b"sph_place ", &place);
+    let mut count = [0u64; 1];
+    let mut bytes = [0u8; 65536];
+    host::ambrothel_sph_part(p, &mut count, &mut bytes);
+    print_part(b"sph_part ", [0; 20], 0, count[0], &bytes);
+}
+
+fn show_record(p: &[u8], entry: usize, asked: usize) {
+    let mut words = [0u64; 5];
+    host::ambrothel_record_place(p, entry, asked, &mut words);
+    let place = [
+        entry as u64,
+        asked as u64,
+        words[0],
+        words[1],
+        words[2],
+        words[3],
+        words[4],
+    ];
+    print_words(b"record_place ", &place);
+    let mut count = [0u64; 1];
+    let mut bytes = [0u8; 65536];
+    host::ambrothel_record_part(p, entry, asked, &mut count, &mut bytes);
+    let mut line = [0u64; 20];
+    line[0] = entry as u64;
+    line[1] = asked as u64;
+    print_part(b"record_part ", line, 2, count[0], &bytes);
+}
+
+// A field at the offset of its kind's number.
+fn show_field(p: &[u8], entry: usize, asked: usize, kind: u8) {
+    let offset = kind as usize;
+    let mut words = [0u64; 7];
+    host::ambrothel_field_at(p, entry, asked, offset, kind, &mut words);
+    let line = [
+        entry as u64,
+        asked as u64,
+        offset as u64,
+        offset as u64,
+        words[0],
+        words[1],
+        words[2],
+        words[3],
+        words[4],
+        words[5],
+        words[6],
+    ];
+    print_words(b"field_at ", &line);
+}
+
+// Of each kind, and of two that are none.
+fn show_fields(p: &[u8], entry: usize, asked: usize) {
+    let mut kind: u8 = 0;
+    while kind < 11 {
+        show_field(p, entry, asked, kind);
+        kind += 1;
+    }
+}
+
+// The bits of a double; a point has no NaN, which would have none.
+fn bits_of(x: f64) -> u64 {
+    if x == x { f64::to_bits(x) } else { 0 }
+}
+
+fn show_point(
+    p: &[u8],
+    entry: usize,
+    asked: usize,
+    latitude: usize,
+    longitude: usize,
+    altitude: usize,
+) {
+    let mut words = [0u64; 3];
+    let mut point = [0.0f64; 3];
+    host::ambrothel_point_at(
+        p,
+        entry,
+        asked,
+        latitude,
+        longitude,
+        altitude,
+        &mut words,
+        &mut point,
+    );
+    let line = [
+        entry as u64,
+        asked as u64,
+        latitude as u64,
+        longitude as u64,
+        altitude as u64,
+        words[0],
+        words[1],
+        words[2],
+        bits_of(point[0]),
+        bits_of(point[1]),
+        bits_of(point[2]),
+    ];
+    print_words(b"point_at ", &line);
+}
+
+// The records of an entry and the one behind the last; of the first three of the first four entries, fields and points too.
+fn show_records(p: &[u8], entry: usize, count: u64) {
+    let mut asked = 0;
+    while asked < 41 {
+        if (asked as u64) <= count {
+            show_record(p, entry, asked);
+            if entry < 4 {
+                if asked < 3 {
+                    show_fields(p, entry, asked);
+                    show_point(p, entry, asked, 0, 4, 8);
+                    show_point(p, entry, asked, 4, 8, 0);
+                }
+            }
+        }
+        asked += 1;
+    }
+}
+
+// Every call on a product.
+fn show_product(p: &[u8]) {
+    let mut words = [0u64; 3];
+    host::ambrothel_judge(p, &mut words);
+    print_words(b"judge ", &words);
+    let directory = show_directory(p);
+    show_header(p);
+    show_sph(p);
+    let entries = directory[3];
+    let mut entry = 0;
+    while entry < 128 {
+        if (entry as u64) < entries {
+            show_records(p, entry, directory[388 + entry]);
+        }
+        entry += 1;
+    }
+    if entries <= 128 {
+        show_records(p, entries as usize, 0);
+    }
+}
+
+fn show_file(name: &[u8])
+    requires { ⌜ length (now name) ≤ 512 ⌝ }
+{
+    let file = os::open_read(name);
+    if file < 0 {
+        os::fail(name);
+        return;
+    }
+    let mut input = [0u8; 65537];
+    let length = io::read_full(file, &mut input);
+    libc::close(file);
+    print_text(b"product ", name);
+    show_product(&input[..length]);
+}
+
+fn main() {
+    show_file(b"case-b");
+    show_file(b"case-k");
+    show_file(b"case-l");
+    show_file(b"descriptors-128");
+    show_file(b"descriptors-129");
+    show_file(b"sph-49152");
+    show_file(b"sph-49153");
+    show_file(b"too-large-tot-size");
+    show_file(b"too-large-ds-offset");
+    show_file(b"too-large-ds-size");
+    show_file(b"refusal-1");
+    show_file(b"refusal-3");
+    show_file(b"refusal-5");
+    show_file(b"refusal-6");
+    show_file(b"refusal-7");
+    show_file(b"refusal-8");
+    show_file(b"refusal-10");
+    show_file(b"refusal-11");
+    show_file(b"refusal-12");
+    show_file(b"refusal-13");
+    show_file(b"refusal-14");
+    show_file(b"refusal-15");
+    show_file(b"refusal-16");
+    show_file(b"every-entry-form");
+    show_file(b"unequal-lengths");
+    show_file(b"minus-zeros");
+}
