@@ -1,30 +1,36 @@
 // What every public call answers for stored products, as the words, texts and doubles that `host` writes: a line for each call.
 // The twin has printed what must come out.
 ghost use mathlib.Core.Path.{_≡_};
-ghost use Prim.Native.Nat.{_≤_};
+ghost use Prim.Native.Nat.{_+_, _*_, _≤_};
 ghost use lib.ListN.{length};
 use libc::STDOUT_FILENO;
 use writing::put_number;
 use writing::put_text;
 
-// What follows a number of a line.
-fn end_of(is_last: bool) -> u8 {
-    if is_last { b'\n' } else { b' ' }
-}
-
-// A line of a call's name and numbers.
-fn print_words(name: &[u8], words: &[u64])
-    requires { ⌜ (length (now name) ≤ 64) × (length (now words) ≤ 40) ⌝ }
+// Numbers, a blank behind each.
+fn put_words(out: &mut [u8], at: usize, words: &[u64]) -> usize
+    requires { ⌜ at + 21 * length (now words) ≤ length (now out) ⌝ }
+    ensures { λ r. ⌜ (at ≤ r) × (r ≤ at + 21 * length (now (words .entry))) ⌝ }
 {
-    let mut out = [0u8; 1024];
-    let mut next = put_text(&mut out, 0, name);
+    let mut next = at;
     let mut i = 0;
     while i < words.len() {
-        let end = end_of(words.len() - i == 1);
-        next = put_number(&mut out, next, words[i], end);
+        next = put_number(out, next, words[i], b' ');
         i += 1;
     }
-    io::write_all(STDOUT_FILENO, &out[..next]);
+    next
+}
+
+// A line of a call's name, what is asked and what is answered. The blank behind the last number makes way for the line's end.
+fn print_words(name: &[u8], asked: &[u64], words: &[u64])
+    requires { ⌜ ((1 ≤ length (now name)) × (length (now name) ≤ 64)) × ((length (now asked) ≤ 6) × (length (now words) ≤ 25)) ⌝ }
+{
+    let mut out = [0u8; 1024];
+    let named = put_text(&mut out, 0, name);
+    let begun = put_words(&mut out, named, asked);
+    let ended = put_words(&mut out, begun, words);
+    out[ended - 1] = b'\n';
+    io::write_all(STDOUT_FILENO, &out[..ended]);
 }
 
 // A line of a name and a text as it is.
@@ -55,14 +61,14 @@ fn show_entry(words: &[u64], texts: &[u8], i: usize)
     requires { ⌜ (i ≤ 127) × ((length (now words) ≡ 644) × (length (now texts) ≡ 11520)) ⌝ }
 {
     let numbers = [
-        i as u64,
         words[4 + i],
         words[132 + i],
         words[260 + i],
         words[388 + i],
         words[516 + i],
     ];
-    print_words(b"entry ", &numbers);
+    let number = [i as u64];
+    print_words(b"entry ", &number, &numbers);
     let name = 28 * i;
     let name_end = name + 28;
     print_numbered(b"name ", i as u64, &texts[name..name_end]);
@@ -77,7 +83,7 @@ fn show_directory(p: &[u8]) -> [u64; 644] {
     let mut texts = [0u8; 11520];
     host::ambrothel_open_directory(p, &mut words, &mut texts);
     let head = [words[0], words[1], words[2], words[3]];
-    print_words(b"directory ", &head);
+    print_words(b"directory ", &[], &head);
     let mut i = 0;
     while i < 128 {
         if (i as u64) < words[3] {
@@ -92,7 +98,7 @@ fn show_header(p: &[u8]) {
     let mut words = [0u64; 25];
     let mut texts = [0u8; 289];
     host::ambrothel_header_values(p, &mut words, &mut texts);
-    print_words(b"header ", &words);
+    print_words(b"header ", &[], &words);
     if words[0] == 0 {
         print_text(b"texts ", &texts);
     } else {
@@ -106,68 +112,45 @@ fn at_most_16(size: u64) -> usize
     if size < 16 { size as usize } else { 16 }
 }
 
-// A part's size and at most 16 of its bytes, behind the first `at` numbers of a line.
-fn print_part(name: &[u8], numbers: [u64; 20], at: usize, size: u64, bytes: &[u8])
-    requires { ⌜ (length (now name) ≤ 64) × ((at ≤ 2) × (16 ≤ length (now bytes))) ⌝ }
+// A part's size and at most 16 of its bytes.
+fn print_part(name: &[u8], asked: &[u64], size: u64, bytes: &[u8])
+    requires { ⌜ ((1 ≤ length (now name)) × (length (now name) ≤ 64)) × ((length (now asked) ≤ 6) × (16 ≤ length (now bytes))) ⌝ }
 {
-    let mut line = numbers;
-    line[at] = size;
+    let mut line = [0u64; 17];
+    line[0] = size;
     let shown = at_most_16(size);
-    let end = words::put_bytes(&mut line, at + 1, &bytes[..shown]);
-    print_words(name, &line[..end]);
+    let end = words::put_bytes(&mut line, 1, &bytes[..shown]);
+    print_words(name, asked, &line[..end]);
 }
 
 fn show_sph(p: &[u8]) {
     let mut place = [0u64; 5];
     host::ambrothel_sph_place(p, &mut place);
-    print_words(b"sph_place ", &place);
+    print_words(b"sph_place ", &[], &place);
     let mut count = [0u64; 1];
     let mut bytes = [0u8; 65536];
     host::ambrothel_sph_part(p, &mut count, &mut bytes);
-    print_part(b"sph_part ", [0; 20], 0, count[0], &bytes);
+    print_part(b"sph_part ", &[], count[0], &bytes);
 }
 
 fn show_record(p: &[u8], entry: usize, asked: usize) {
-    let mut words = [0u64; 5];
-    host::ambrothel_record_place(p, entry, asked, &mut words);
-    let place = [
-        entry as u64,
-        asked as u64,
-        words[0],
-        words[1],
-        words[2],
-        words[3],
-        words[4],
-    ];
-    print_words(b"record_place ", &place);
+    let question = [entry as u64, asked as u64];
+    let mut place = [0u64; 5];
+    host::ambrothel_record_place(p, entry, asked, &mut place);
+    print_words(b"record_place ", &question, &place);
     let mut count = [0u64; 1];
     let mut bytes = [0u8; 65536];
     host::ambrothel_record_part(p, entry, asked, &mut count, &mut bytes);
-    let mut line = [0u64; 20];
-    line[0] = entry as u64;
-    line[1] = asked as u64;
-    print_part(b"record_part ", line, 2, count[0], &bytes);
+    print_part(b"record_part ", &question, count[0], &bytes);
 }
 
 // A field at the offset of its kind's number.
 fn show_field(p: &[u8], entry: usize, asked: usize, kind: u8) {
     let offset = kind as usize;
+    let question = [entry as u64, asked as u64, offset as u64, offset as u64];
     let mut words = [0u64; 7];
     host::ambrothel_field_at(p, entry, asked, offset, kind, &mut words);
-    let line = [
-        entry as u64,
-        asked as u64,
-        offset as u64,
-        offset as u64,
-        words[0],
-        words[1],
-        words[2],
-        words[3],
-        words[4],
-        words[5],
-        words[6],
-    ];
-    print_words(b"field_at ", &line);
+    print_words(b"field_at ", &question, &words);
 }
 
 // Of each kind, and of two that are none.
@@ -204,12 +187,14 @@ fn show_point(
         &mut words,
         &mut point,
     );
-    let line = [
+    let question = [
         entry as u64,
         asked as u64,
         latitude as u64,
         longitude as u64,
         altitude as u64,
+    ];
+    let answer = [
         words[0],
         words[1],
         words[2],
@@ -217,7 +202,7 @@ fn show_point(
         bits_of(point[1]),
         bits_of(point[2]),
     ];
-    print_words(b"point_at ", &line);
+    print_words(b"point_at ", &question, &answer);
 }
 
 // The records of an entry and the one behind the last; of the first three of the first four entries, fields and points too.
@@ -242,7 +227,7 @@ fn show_records(p: &[u8], entry: usize, count: u64) {
 fn show_product(p: &[u8]) {
     let mut words = [0u64; 3];
     host::ambrothel_judge(p, &mut words);
-    print_words(b"judge ", &words);
+    print_words(b"judge ", &[], &words);
     let directory = show_directory(p);
     show_header(p);
     show_sph(p);
@@ -274,31 +259,66 @@ fn show_file(name: &[u8])
     show_product(&input[..length]);
 }
 
-fn main() {
+// Document 01's cases B, K and L.
+fn show_cases() {
     show_file(b"case-b");
     show_file(b"case-k");
     show_file(b"case-l");
+}
+
+// NUM_DSD 128 and 129, SPH_SIZE 49,152 and 49,153.
+fn show_limits() {
     show_file(b"descriptors-128");
     show_file(b"descriptors-129");
     show_file(b"sph-49152");
     show_file(b"sph-49153");
+}
+
+// 9223372036854775808 in TOT_SIZE, DS_OFFSET and DS_SIZE: refusals 4 and 9.
+fn show_large() {
     show_file(b"too-large-tot-size");
     show_file(b"too-large-ds-offset");
     show_file(b"too-large-ds-size");
+}
+
+// Refusals 1 to 8.
+fn show_headers() {
     show_file(b"refusal-1");
     show_file(b"refusal-3");
     show_file(b"refusal-5");
     show_file(b"refusal-6");
     show_file(b"refusal-7");
     show_file(b"refusal-8");
+}
+
+// Refusals 10 to 13.
+fn show_numbers() {
     show_file(b"refusal-10");
     show_file(b"refusal-11");
     show_file(b"refusal-12");
     show_file(b"refusal-13");
+}
+
+// Refusals 14 to 16.
+fn show_layouts() {
     show_file(b"refusal-14");
     show_file(b"refusal-15");
     show_file(b"refusal-16");
+}
+
+// Every form of entry, records of unequal lengths, minus zeros.
+fn show_forms() {
     show_file(b"every-entry-form");
     show_file(b"unequal-lengths");
     show_file(b"minus-zeros");
+}
+
+fn main() {
+    show_cases();
+    show_limits();
+    show_large();
+    show_headers();
+    show_numbers();
+    show_layouts();
+    show_forms();
 }

@@ -2,14 +2,10 @@
 -- Assumes nothing.
 use mathlib.Core.Path.{sym}
 use native.Mathlib.Omega.{arith}
-use lib.ListN.{length-set}
 use lib.Seq.{length-sets, length-take-le}
 use borrow.Author.Needs.{needs}
 use Rattle.vectors.proofs.print_part.Statement.{statement}
 use Rattle.vectors.proofs.print_part.Tie as tie
-
-mul-line : tie.Need-mul-line
-mul-line c = search needs
 
 array-write-line : tie.Need-array-write-line
 array-write-line c = search needs
@@ -20,23 +16,20 @@ at-most-16-requires c κs = search needs
 slice-aggregate-put-bytes : tie.Need-slice-aggregate-put-bytes
 slice-aggregate-put-bytes c = search needs
 
-add-put-bytes : tie.Need-add-put-bytes
-add-put-bytes c = search needs
-
 slice-aggregate-put-bytes-2 : tie.Need-slice-aggregate-put-bytes-2
-slice-aggregate-put-bytes-2 c = sym (length-take-le (c .before .before .at-most-16 .result) (c .before .before .before .before .before .args .bytes .now) (omega arith))
+slice-aggregate-put-bytes-2 c = sym (length-take-le (c .before .before .at-most-16 .result) (c .before .before .before .before .before .before .args .bytes .now) (omega arith))
 
 put-bytes-requires : tie.Need-put-bytes-requires
-put-bytes-requires c κs = rw (length-take-le (c .before .before .at-most-16 .result) (c .before .before .before .before .before .args .bytes .now) (omega arith), length-set) (omega arith)
+put-bytes-requires c κs = omega (arith, length-take-le (c .before .before .at-most-16 .result) (c .before .before .before .before .before .before .args .bytes .now) (omega arith))
 
 array-share-prefix-line : tie.Need-array-share-prefix-line
-array-share-prefix-line c = rw (c .before .put-bytes .ensures .written, length-sets, length-set) (omega (arith, c .before .put-bytes .ensures .next, length-take-le (c .before .before .before .before .at-most-16 .result) (c .before .before .before .before .before .before .before .args .bytes .now) (omega arith)))
+array-share-prefix-line c = rw (c .before .put-bytes .ensures .written, length-sets) (omega (arith, c .before .put-bytes .ensures .next, length-take-le (c .before .before .before .before .at-most-16 .result) (c .before .before .before .before .before .before .before .before .args .bytes .now) (omega arith)))
 
 slice-aggregate-print-words : tie.Need-slice-aggregate-print-words
-slice-aggregate-print-words c = sym (length-take-le (c .before .before .put-bytes .result) (c .before .before .put-bytes .last .0) (array-share-prefix-line (c .before)))
+slice-aggregate-print-words c = sym (length-take-le (c .before .before .put-bytes .result) _ (array-share-prefix-line (c .before)))
 
 print-words-requires : tie.Need-print-words-requires
-print-words-requires c κs = (omega arith, rw (length-take-le (c .before .before .put-bytes .result) (c .before .before .put-bytes .last .0) (array-share-prefix-line (c .before))) (omega (arith, c .before .before .put-bytes .ensures .next, length-take-le (c .before .before .before .before .before .at-most-16 .result) (c .before .before .before .before .before .before .before .before .args .bytes .now) (omega arith))))
+print-words-requires c κs = ((omega arith, omega arith), (omega arith, rw (← slice-aggregate-print-words c) (omega (arith, c .before .before .put-bytes .ensures .next, length-take-le (c .before .before .before .before .before .at-most-16 .result) (c .before .before .before .before .before .before .before .before .before .args .bytes .now) (omega arith)))))
 
 returns : tie.Need-returns
 returns c = search needs
@@ -45,11 +38,9 @@ pub print-part-spec : {M : Type 1} → statement M
 print-part-spec =
     tie.close
     (tie.spec
-    mul-line
     array-write-line
     at-most-16-requires
     slice-aggregate-put-bytes
-    add-put-bytes
     slice-aggregate-put-bytes-2
     put-bytes-requires
     array-share-prefix-line

@@ -23,23 +23,26 @@ slice-aggregate-ambrothel-open-directory-2 c = search needs
 ambrothel-open-directory-requires : tie.Need-ambrothel-open-directory-requires Inv-loop μ-loop
 ambrothel-open-directory-requires c κs = search needs
 
-array-read-t14 : tie.Need-array-read-t14 Inv-loop μ-loop
-array-read-t14 c = omega arith
+array-read-t15 : tie.Need-array-read-t15 Inv-loop μ-loop
+array-read-t15 c = search needs
 
-array-read-t17 : tie.Need-array-read-t17 Inv-loop μ-loop
-array-read-t17 c = omega arith
+array-read-t18 : tie.Need-array-read-t18 Inv-loop μ-loop
+array-read-t18 c = search needs
 
-array-read-t20 : tie.Need-array-read-t20 Inv-loop μ-loop
-array-read-t20 c = omega arith
+array-read-t21 : tie.Need-array-read-t21 Inv-loop μ-loop
+array-read-t21 c = search needs
 
-array-read-t23 : tie.Need-array-read-t23 Inv-loop μ-loop
-array-read-t23 c = omega arith
+array-read-t24 : tie.Need-array-read-t24 Inv-loop μ-loop
+array-read-t24 c = search needs
 
 slice-aggregate-print-words : tie.Need-slice-aggregate-print-words Inv-loop μ-loop
 slice-aggregate-print-words c = search needs
 
 slice-aggregate-print-words-2 : tie.Need-slice-aggregate-print-words-2 Inv-loop μ-loop
 slice-aggregate-print-words-2 c = search needs
+
+slice-aggregate-print-words-3 : tie.Need-slice-aggregate-print-words-3 Inv-loop μ-loop
+slice-aggregate-print-words-3 c = search needs
 
 print-words-requires : tie.Need-print-words-requires Inv-loop μ-loop
 print-words-requires c κs = search needs
@@ -80,12 +83,13 @@ show-directory-spec =
     slice-aggregate-ambrothel-open-directory
     slice-aggregate-ambrothel-open-directory-2
     ambrothel-open-directory-requires
-    array-read-t14
-    array-read-t17
-    array-read-t20
-    array-read-t23
+    array-read-t15
+    array-read-t18
+    array-read-t21
+    array-read-t24
     slice-aggregate-print-words
     slice-aggregate-print-words-2
+    slice-aggregate-print-words-3
     print-words-requires
     loop-holds
     array-read-if1

@@ -24,6 +24,9 @@ slice-aggregate-print-words c = search needs
 slice-aggregate-print-words-2 : tie.Need-slice-aggregate-print-words-2 Inv-loop μ-loop
 slice-aggregate-print-words-2 c = search needs
 
+slice-aggregate-print-words-3 : tie.Need-slice-aggregate-print-words-3 Inv-loop μ-loop
+slice-aggregate-print-words-3 c = search needs
+
 print-words-requires : tie.Need-print-words-requires Inv-loop μ-loop
 print-words-requires c κs = search needs
 
@@ -82,6 +85,7 @@ show-product-spec =
     ambrothel-judge-requires
     slice-aggregate-print-words
     slice-aggregate-print-words-2
+    slice-aggregate-print-words-3
     print-words-requires
     show-directory-requires
     show-header-requires
