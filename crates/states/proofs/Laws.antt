@@ -4,7 +4,7 @@ use Prim.Native.Nat.{ℕ, zero, suc, _+_, _*_, _-_, _≤_, _<_}
 use mathlib.Core.Bool.{Bool, true, false, cond, _&&_, not, and-false}
 use mathlib.Core.List.{List, [], _∷_, _++_, map}
 use mathlib.Core.Logic.{_⊎_, ⊎-elim}
-use mathlib.Core.Path.{_≡_, refl, sym, _∙_}
+use mathlib.Core.Path.{_≡_, refl, sym, ap, _∙_}
 use native.Mathlib.Omega.{arith}
 use native.Mathlib.Nat.{add-zero, zero-add, add-assoc, zero-mul, suc-mul, suc-sub-suc, sub-zero, le-of-suc-le-suc}
 use native.Mathlib.Numerals.{add-one}
@@ -18,10 +18,11 @@ use Rattle.layout.specs.Entries.{Entry, at, start}
 use Rattle.layout.specs.States.{State, stateFits, attached, stateCount, stateLengths, stateBytes, stateAt, stateIn, statesEntry, statesOf, firstBad, countOf, totalOf, tallyOf, ofKind}
 use Rattle.layout.specs.Records.{variableLengths}
 use Rattle.layout.proofs.Laws.{lt-or-le}
+use Rattle.states.specs.declared.State.{State as StateRead}
 use Rattle.states.specs.declared.Tally.{Tally}
 use Rattle.states.specs.declared.Found.{Found}
 use Rattle.states.specs.declared.Found.the-variants.{At, Nothing}
-use Rattle.states.specs.States.{stateFrom, statesFrom, cap, capped, Capped, withState, tallyIs, foundBehind, found}
+use Rattle.states.specs.States.{stateIs, stateFrom, statesFrom, cap, capped, Capped, added, tallyIs, foundBehind, found}
 use Rattle.states.proofs.Sums.{zero-capped, capped-is, capped-plus, added-capped, left, left-none, left-step}
 
 -- ---- the numbers of a state
@@ -120,6 +121,15 @@ states-of b ds = refl
 
 -- ---- the tally
 
+-- one more state, number i
+unfoldable pub withState : Tally → State → ℕ → Tally
+withState t s i =
+    record {
+      bad = cond (eqb (t .bad) i && stateFits s) (t .bad + 1) (t .bad);
+      counts = added (t .counts) (s .kind) (stateCount (s .kind) s);
+      totals = added (t .totals) (s .kind) (stateBytes (s .kind) s);
+    }
+
 -- a tally, when more states have been added, from number i on
 unfoldable pub after : Tally → ℕ → List State → Tally
 after t i [] = t
@@ -160,7 +170,7 @@ pub after-all : (ss : List State) → after noTally 0 ss ≡ tallyIs (tallyOf ss
 unfolding tallyIs tallyOf left countOf totalOf
 after-all ss = after-is noTally 0 ss (simp zero-capped) (simp zero-capped) (omega arith) ∙ simp zero-add
 
--- one more state: what is left of the tally is the whole tally, and its sums stay capped
+-- one more state: what is left of the tally is the whole tally
 pub after-step : (b : List ℕ) (start n i : ℕ) (t u : Tally) (s : State) → i < n → s ≡ stateFrom b start i → u ≡ withState t s i
     → after t i (restFrom b start n i) ≡ after u (i + 1) (restFrom b start n (i + 1))
 unfolding after
@@ -170,6 +180,18 @@ pub after-end : (b : List ℕ) (start n i : ℕ) (t : Tally) → n ≤ i → aft
 unfolding after
 after-end b start n i t h = rw (rest-end b start n i h)
 
+-- one more state, by the tally's three parts
+pub with-parts : (t u : Tally) (s : StateRead) (i more : ℕ) (fits : Bool) → more ≡ stateCount (s .kind) (stateIs s) → fits ≡ stateFits (stateIs s)
+    → u .bad ≡ cond (eqb (t .bad) i && fits) (t .bad + 1) (t .bad) → u .counts ≡ added (t .counts) (s .kind) more → u .totals ≡ added (t .totals) (s .kind) (more * s .«record_length»)
+    → u ≡ withState t (stateIs s) i
+unfolding withState stateIs stateBytes
+with-parts t u s i more fits e f b c d = λ j. record {
+  bad = (b ∙ ap (λ (x : Bool). cond (eqb (t .bad) i && x) (t .bad + 1) (t .bad)) f) j;
+  counts = (c ∙ ap (added (t .counts) (s .kind)) e) j;
+  totals = (d ∙ ap (λ (n : ℕ). added (t .totals) (s .kind) (n * s .«record_length»)) e) j;
+}
+
+-- the sums stay capped
 pub with-capped : (t u : Tally) (s : State) (i : ℕ) → u ≡ withState t s i → Capped (u .counts) × Capped (u .totals)
 unfolding withState
 with-capped t u s i q = rw q (added-capped (t .counts) (s .kind) (stateCount (s .kind) s), added-capped (t .totals) (s .kind) (stateBytes (s .kind) s))

@@ -2,14 +2,14 @@
 -- product can hold, can total 4.4e20 bytes.
 -- Assumes nothing.
 use Prim.Native.Nat.{ℕ, _+_, _*_, _-_}
-use mathlib.Core.Bool.{cond, _&&_}
+use mathlib.Core.Bool.{cond}
 use mathlib.Core.List.{List, map}
 use mathlib.Core.Path.{_≡_}
 use lib.Dec.{leb, ltb, eqb}
 use lib.ListN.{length, take, getD}
 use Rattle.layout.specs.Bytes.{part}
 use Rattle.layout.specs.Search.{upto, sum}
-use Rattle.layout.specs.States.{State, stateOf, stateFits, stateCount, stateBytes, Tally}
+use Rattle.layout.specs.States.{State, stateOf, Tally}
 use Rattle.states.specs.declared.State.{State as StateRead}
 use Rattle.states.specs.declared.Tally.{Tally as TallyRead}
 use Rattle.states.specs.declared.Found.{Found}
@@ -49,15 +49,6 @@ unfoldable pub added : List ℕ → ℕ → ℕ → List ℕ
 added l kind more = map (addedAt l kind more) (upto 1 4)
 
 -- ---- the tally
-
--- one more state, number i
-unfoldable pub withState : TallyRead → State → ℕ → TallyRead
-withState t s i =
-    record {
-      bad = cond (eqb (t .bad) i && stateFits s) (t .bad + 1) (t .bad);
-      counts = added (t .counts) (s .kind) (stateCount (s .kind) s);
-      totals = added (t .totals) (s .kind) (stateBytes (s .kind) s);
-    }
 
 -- the tally with its sums capped
 unfoldable pub tallyIs : Tally → TallyRead

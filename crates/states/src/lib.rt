@@ -7,7 +7,7 @@ ghost use lib.ListN.{length};
 ghost use Rattle.layout.specs.Bytes.{part};
 ghost use Rattle.layout.specs.States.{stateOf, stateFits, stateCount, tallyOf};
 ghost use Rattle.layout.specs.Records.{variableLengths};
-ghost use Rattle.states.specs.States.{stateIs, cap, capped, Capped, added, withState, statesFrom, tallyIs, found};
+ghost use Rattle.states.specs.States.{stateIs, cap, capped, Capped, added, statesFrom, tallyIs, found};
 
 // Source 003, table 15.4.1.7.20-1.
 pub struct State {
@@ -91,21 +91,19 @@ fn plus(sum: u64, more: u64) -> u64
     all
 }
 
-// So much more for one kind, if it is one of the four.
-fn plus_at(sums: [u64; 4], kind: u8, more: u64) -> [u64; 4]
-    requires { ⌜ Capped sums × (more ≤ cap) ⌝ }
-    ensures { λ r. ⌜ r ≡ added sums kind more ⌝ }
+// So much more for one kind, if it is one of the four. In place: to copy all four right behind a store to one would wait for it.
+fn add_at(sums: &mut [u64; 4], kind: u8, more: u64)
+    requires { ⌜ Capped (now sums) × (more ≤ cap) ⌝ }
+    ensures { λ _. ⌜ now (sums .exit) ≡ added (now (sums .entry)) kind more ⌝ }
 {
     if kind < 1 {
-        return sums;
+        return;
     }
     if 4 < kind {
-        return sums;
+        return;
     }
     let place = (kind - 1) as usize;
-    let mut out = sums;
-    out[place] = plus(sums[place], more);
-    out
+    sums[place] = plus(sums[place], more);
 }
 
 // The number of the first state that does not fit, or how many there are, behind state i: one more only where all before it fit and it fits too.
@@ -122,42 +120,31 @@ fn fitting(bad: usize, i: usize, fits: bool) -> usize
     bad
 }
 
-impl Tally {
-    // One more state, number i.
-    fn with(self, state: State, i: usize) -> Tally
-        requires { ⌜ Capped (self .counts) × (Capped (self .totals) × (i < 9223372036854775807)) ⌝ }
-        ensures { λ r. ⌜ r ≡ withState self (stateIs state) i ⌝ }
-    {
-        let kind = state.kind;
-        let more = state.adds_to(kind);
-        let bytes = more * state.record_length as u64;
-        let counts = self.counts;
-        let totals = self.totals;
-        Tally {
-            bad: fitting(self.bad, i, state.fits()),
-            counts: plus_at(counts, kind, more),
-            totals: plus_at(totals, kind, bytes),
-        }
-    }
-}
-
 // Of the states whose records begin at a place and follow each other.
 pub fn tally_states(p: &[u8], start: usize, count: usize) -> Tally
     requires { ⌜ start + 1387 * count ≤ length (now p) ⌝ }
     ensures { λ r. ⌜ r ≡ tallyIs (tallyOf (statesFrom (now (p .entry)) start count)) ⌝ }
 {
-    let mut t = Tally {
-        bad: 0,
-        counts: [0; 4],
-        totals: [0; 4],
-    };
+    let mut bad = 0;
+    let mut counts: [u64; 4] = [0; 4];
+    let mut totals: [u64; 4] = [0; 4];
     let mut i = 0;
     while i < count {
         let at = start + State::SIZE * i;
-        t = t.with(State::at(p, at), i);
+        let state = State::at(p, at);
+        let kind = state.kind;
+        let more = state.adds_to(kind);
+        let bytes = more * state.record_length as u64;
+        bad = fitting(bad, i, state.fits());
+        add_at(&mut counts, kind, more);
+        add_at(&mut totals, kind, bytes);
         i += 1;
     }
-    t
+    Tally {
+        bad,
+        counts,
+        totals,
+    }
 }
 
 // A record of a variable set: the bytes of the records before it, and its length.
