@@ -160,11 +160,12 @@ pub fn open_product(p: &[u8]) -> Opening
     if let Verdict::Refused(refusal) = second {
         return refused_opening(refusal);
     }
-    let sets = checked.sets;
-    let third = judge_states(p, sets);
+    // Not from a local, which would be one more copy of the numbers, 4.5 kB.
+    let third = judge_states(p, checked.sets);
     if let Verdict::Refused(refusal) = third {
         return refused_opening(refusal);
     }
+    let sets = checked.sets;
     Opening {
         verdict: Verdict::Accepted,
         headers_end: header.headers_end,

@@ -43,7 +43,7 @@ enum-told-2 : tie.Need-enum-told-2
 enum-told-2 c = search needs
 
 judge-states-requires : tie.Need-judge-states-requires
-judge-states-requires c κs = laid _ _ (c .before .before .before .before .before .before .check-header .ensures) (c .before .before .before .before .enum-told .given .1) _ (c .before .before .before .check-directory .ensures) (c .before .enum-told2 .given .1)
+judge-states-requires c κs = laid _ _ (c .before .before .before .before .before .check-header .ensures) (c .before .before .before .enum-told .given .1) _ (c .before .before .check-directory .ensures) (c .enum-told2 .given .1)
 
 enum-known-third : tie.Need-enum-known-third
 enum-known-third c = search needs
@@ -52,13 +52,13 @@ refused-opening-requires-3 : tie.Need-refused-opening-requires-3
 refused-opening-requires-3 c κs = search needs
 
 returns-3 : tie.Need-returns-3
-returns-3 c = states-refused _ _ (c .before .before .before .before .before .before .before .before .before .before .before .check-header .ensures) (c .before .before .before .before .before .before .before .before .before .enum-told .given .1) _ (c .before .before .before .before .before .before .before .before .check-directory .ensures) (c .before .before .before .before .before .before .enum-told2 .given .1) _ _ _ (c .refused-opening3 .ensures) (c .before .before .third .given .1) (c .before .before .before .before .judge-states .ensures)
+returns-3 c = states-refused _ _ (c .before .before .before .before .before .before .before .before .before .before .check-header .ensures) (c .before .before .before .before .before .before .before .before .enum-told .given .1) _ (c .before .before .before .before .before .before .before .check-directory .ensures) (c .before .before .before .before .before .enum-told2 .given .1) _ _ _ (c .refused-opening3 .ensures) (c .before .before .third .given .1) (c .before .before .before .before .judge-states .ensures)
 
 enum-told-3 : tie.Need-enum-told-3
 enum-told-3 c = search needs
 
 returns-4 : tie.Need-returns-4
-returns-4 c = opened _ _ (c .before .before .before .before .before .before .before .before .before .check-header .ensures) (c .before .before .before .before .before .before .before .enum-told .given .1) _ (c .before .before .before .before .before .before .check-directory .ensures) (c .before .before .before .before .enum-told2 .given .1) _ (c .enum-told3 .given .1) (c .before .before .judge-states .ensures)
+returns-4 c = opened _ _ (c .before .before .before .before .before .before .before .before .before .check-header .ensures) (c .before .before .before .before .before .before .before .enum-told .given .1) _ (c .before .before .before .before .before .before .check-directory .ensures) (c .before .before .before .before .enum-told2 .given .1) _ (c .before .enum-told3 .given .1) (c .before .before .before .judge-states .ensures)
 
 pub open-product-spec : {M : Type 1} → statement M
 open-product-spec =
