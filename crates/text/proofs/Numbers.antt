@@ -19,12 +19,13 @@ use borrow.Author.Tests.{eq-eqb, ne-eqb, lt-ltb}
 use Rattle.layout.specs.Bytes.{part, byteAt}
 use Rattle.layout.specs.Text.{digit, fits, digits, numberOf}
 use Rattle.layout.specs.Search.{some}
+use Rattle.text.specs.Blanks.{notBlank}
 use Rattle.text.specs.LineEnds.{fails}
 use Rattle.text.specs.Numbers.{capped, withByte, numberIn, wholeIn}
 use Rattle.text.specs.declared.Number.{Number}
 use Rattle.text.proofs.Parts.{part-cons, part-end}
 use Rattle.text.proofs.Runs.{tested}
-use Rattle.text.proofs.Tests.{digit-bounds, not-failing}
+use Rattle.text.proofs.Tests.{blank-at, digit-bounds, not-failing}
 
 -- ---- one byte more
 
@@ -149,7 +150,18 @@ module _ (b : List ℕ) where
   pub all-digits : (at n : ℕ) (all : Bool) → all ≡ not (some (fails (fits digit) b) at n) → all ≡ true → (k : ℕ) → at ≤ k → k < at + n → T (fits digit (byteAt b k))
   all-digits at n all e h k l u = not-failing (fits digit) b k (tested (fails (fits digit) b) n at all e h k l u)
 
+  -- blanks count 0
+  digits-blank : (n at : ℕ) → at + n ≤ length b → ((k : ℕ) → at ≤ k → k < at + n → getD b k 0 ≡ 32) → digits 0 (part b at n) ≡ 0
+  unfolding digits
+  digits-blank zero at l h = digits-none at 0
+  digits-blank (suc n) at l h =
+      rw (part-suc at n (omega arith), h at (omega arith) (omega arith)) (digits-blank n (suc at) (omega arith) (λ k v w. h k (omega arith) (omega arith)))
+
   module _ (from to : ℕ) where
+    pub blanks-is : (n : ℕ) (all : Bool) → from + n ≤ length b → to - from ≡ n → all ≡ not (some (notBlank b) from n) → all ≡ true → 0 ≡ capped (digits 0 (part b from (to - from)))
+    unfolding capped
+    blanks-is n all l w e h = rw (w, digits-blank n from l (λ k v u. blank-at b k (tested (notBlank b) n from all e h k v u)))
+
     pub ten-is : (r : ℕ) → to - from ≡ 10 → (r ≡ digits 0 (part b from 10)) × (r < 10 ^ 10) → r ≡ capped (digits 0 (part b from (to - from)))
     unfolding capped
     ten-is r w e = rw (w, ← (e .0)) (omega (arith, e .1))

@@ -327,7 +327,8 @@ fn joined(high: u64, low: u64) -> u64
     9223372036854775808
 }
 
-// The same magnitude: of twenty digits, as sizes and offsets have them, in two halves, and of ten at once.
+// The same magnitude: of twenty digits, as sizes and offsets have them, in two halves, and of ten at once. Where those bytes are blanks, as in a
+// spare entry, it is 0. Digits are tested first, as most entries have them.
 fn magnitude_at(p: &[u8], from: usize, to: usize) -> u64
     requires { ⌜ (from ≤ to) × (to ≤ length (now p)) ⌝ }
     ensures { λ r. ⌜ r ≡ capped (digits 0 (part (now (p .entry)) from (to - from))) ⌝ }
@@ -336,10 +337,16 @@ fn magnitude_at(p: &[u8], from: usize, to: usize) -> u64
         if digits_in(p, from, 20) {
             return joined(ten_digits(p, from), ten_digits(p, from + 10));
         }
+        if blanks_in(p, from, 20) {
+            return 0;
+        }
     }
     if to - from == 10 {
         if digits_in(p, from, 10) {
             return ten_digits(p, from);
+        }
+        if blanks_in(p, from, 10) {
+            return 0;
         }
     }
     digits_at(p, from, to)
