@@ -1,5 +1,5 @@
-// What every public call answers for stored products, as the words, texts and doubles that `host` writes: a line for each call.
-// The twin has printed what must come out.
+// What every public call answers for the products whose files the arguments name, as the words, texts and doubles that `host` writes: a line for each
+// call. For the stored products the twin has printed what must come out.
 ghost use mathlib.Core.Path.{_≡_};
 ghost use Prim.Native.Nat.{_+_, _*_, _≤_};
 ghost use lib.ListN.{length};
@@ -259,66 +259,18 @@ fn show_file(name: &[u8])
     show_product(&input[..length]);
 }
 
-// Document 01's cases B, K and L.
-fn show_cases() {
-    show_file(b"case-b");
-    show_file(b"case-k");
-    show_file(b"case-l");
-}
-
-// NUM_DSD 128 and 129, SPH_SIZE 49,152 and 49,153.
-fn show_limits() {
-    show_file(b"descriptors-128");
-    show_file(b"descriptors-129");
-    show_file(b"sph-49152");
-    show_file(b"sph-49153");
-}
-
-// 9223372036854775808 in TOT_SIZE, DS_OFFSET and DS_SIZE: refusals 4 and 9.
-fn show_large() {
-    show_file(b"too-large-tot-size");
-    show_file(b"too-large-ds-offset");
-    show_file(b"too-large-ds-size");
-}
-
-// Refusals 1 to 8.
-fn show_headers() {
-    show_file(b"refusal-1");
-    show_file(b"refusal-3");
-    show_file(b"refusal-5");
-    show_file(b"refusal-6");
-    show_file(b"refusal-7");
-    show_file(b"refusal-8");
-}
-
-// Refusals 10 to 13.
-fn show_numbers() {
-    show_file(b"refusal-10");
-    show_file(b"refusal-11");
-    show_file(b"refusal-12");
-    show_file(b"refusal-13");
-}
-
-// Refusals 14 to 16.
-fn show_layouts() {
-    show_file(b"refusal-14");
-    show_file(b"refusal-15");
-    show_file(b"refusal-16");
-}
-
-// Every form of entry, records of unequal lengths, minus zeros.
-fn show_forms() {
-    show_file(b"every-entry-form");
-    show_file(b"unequal-lengths");
-    show_file(b"minus-zeros");
+// The product whose file the argument names.
+fn show_argument(i: usize) {
+    let mut name = [0u8; 512];
+    let length = os::arg(i, &mut name);
+    show_file(&name[..length]);
 }
 
 fn main() {
-    show_cases();
-    show_limits();
-    show_large();
-    show_headers();
-    show_numbers();
-    show_layouts();
-    show_forms();
+    let count = os::arg_count();
+    let mut i = 1;
+    while i < count {
+        show_argument(i);
+        i += 1;
+    }
 }
