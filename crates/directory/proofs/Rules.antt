@@ -17,11 +17,12 @@ use Rattle.layout.specs.Text.{exactly, plain, fits, layout, lineClasses, valueC
 use Rattle.layout.specs.Lines.{mph, dsd, spareDsd}
 use Rattle.layout.specs.Answer.{Answer, accepted, refused, _orElse_, need}
 use Rattle.layout.specs.Answers.{verdictIs, padded}
+use Rattle.layout.specs.declared.Verdict.{Verdict}
 use Rattle.layout.specs.Search.{first, count, laidOut}
 use Rattle.layout.specs.Sph.{sphLines}
 use Rattle.layout.specs.Entries.{Entry, eqZ, headerNumber, numDataSets, entries, dsdAt, dsdBytes, entryOf, entryAt, directory, at, start, extent, nonEmpty, isData, isReference, allZero, inRange, setFits, numbersFit}
 use Rattle.layout.specs.Rules.{linesOf, rule7At, rule7, rule8At, rule8, rule9At, rule9, rule10At, rule10, dataSets, rule11, rule12At, rule12, rule13At, rule13, rule14At, rule14}
-use Rattle.layout.proofs.Laws.{need-accepts, orElse-accepts, orElse-assoc, first-accepts-0, laidOut-fits}
+use Rattle.layout.proofs.Laws.{accepted≢refused, need-accepts, orElse-accepts, orElse-assoc, first-accepts-0, laidOut-fits}
 use Rattle.layout.proofs.Starts.{dsd-length, spare-length}
 use Rattle.layout.proofs.Sound.{length-directory, at-directory}
 use Rattle.layout.proofs.Types.{laidOut-typed}
@@ -29,10 +30,9 @@ use Rattle.text.specs.Numbers.{numberIn}
 use Rattle.text.specs.declared.Number.{Number as HeldNumber}
 use Rattle.sets.specs.Sets.{Held}
 use Rattle.directory.specs.Held.{numberFrom}
-use Rattle.directory.specs.Checks.{rules7to14, setsOf, noSets, setsFor, Headers, Dsds, ReadAll, Checked}
+use Rattle.directory.specs.Checks.{rules7to14, setsOf, Headers, Dsds, ReadAll, Checked}
 use Rattle.directory.specs.declared.Sets.{Sets}
 use Rattle.directory.specs.declared.Reading.{Reading}
-use Rattle.directory.specs.declared.DirectoryCheck.{DirectoryCheck}
 use Rattle.directory.proofs.Numbers.{is-zero, above, from-zero, equals, both-pass}
 use Rattle.directory.proofs.Fits.{all-four}
 use Rattle.directory.proofs.Places.{short-number}
@@ -182,9 +182,9 @@ module _ (b : List ℕ) (n : ℕ) where
       (orElse-assoc (rule7 b n) (rule8 b n) (rule9 b n orElse (numbers orElse places))
       ∙ ap (λ (a : Answer). rule7 b n orElse (rule8 b n orElse (rule9 b n orElse a))) (orElse-assoc (rule10 b n) (rule11 b n) places))
 
-  -- an answer that refuses
-  pub stopped : (r : DirectoryCheck) {m p e : ℕ} → rules7to14 b n ≡ refused m p e → (verdictIs (r .verdict) ≡ refused m p e) × (r .sets ≡ noSets) → Checked b n r
-  stopped r q h = record { verdict = h .0 ∙ sym q; sets = h .1 ∙ ap (λ (a : Answer). setsFor a b) (sym q) }
+  -- a verdict that refuses
+  pub stopped : (r : Verdict) (sets : Sets) {m p e : ℕ} → rules7to14 b n ≡ refused m p e → verdictIs r ≡ refused m p e → Checked b n r sets
+  stopped r sets q h = record { verdict = h ∙ sym q; read = λ a. absurd (accepted≢refused (sym a ∙ q)) }
 
   module _ {m p e : ℕ} where
     pub stop-text : refused m p e ≡ text → rules7to14 b n ≡ refused m p e
@@ -198,18 +198,13 @@ module _ (b : List ℕ) (n : ℕ) where
         pub stop-numbers : refused m p e ≡ numbers → rules7to14 b n ≡ refused m p e
         stop-numbers h = rules-split ∙ rw (a, o, ← h)
 
-        pub stop-places : numbers ≡ accepted → refused m p e ≡ places → rules7to14 b n ≡ refused m p e
-        stop-places k h = rules-split ∙ rw (a, o, k, ← h)
-
-  pub passed : (r : DirectoryCheck) → text ≡ accepted → rule9 b n ≡ accepted → numbers ≡ accepted → places ≡ accepted
-      → verdictIs (r .verdict) ≡ accepted → r .sets ≡ setsOf (directory b) → Checked b n r
-  passed r a o k h v s =
-      let q : rules7to14 b n ≡ accepted = rules-split ∙ rw (a, o, k, h) in
-      record { verdict = v ∙ sym q; sets = s ∙ ap (λ (x : Answer). setsFor x b) (sym q) }
+  -- the last verdict, of rules 12 to 14
+  pub passed : (r : Verdict) (sets : Sets) → text ≡ accepted → rule9 b n ≡ accepted → numbers ≡ accepted → verdictIs r ≡ places → sets ≡ setsOf (directory b) → Checked b n r sets
+  passed r sets a o k h s = record { verdict = h ∙ sym (rules-split ∙ rw (a, o, k)); read = λ q. s }
 
 -- ---- what a reading gives of rules 9 to 11, and the numbers of rules 12 to 14
 
-module _ (b : List ℕ) (n dsds k : ℕ) (placed : Dsds b dsds k) (r : Reading) (read : ReadAll b dsds k r) where
+module _ (b : List ℕ) (n dsds k : ℕ) (placed : Dsds b dsds k) (r : Reading) (sets : Sets) (read : ReadAll b dsds k r sets) where
   pub by-over : verdictIs (r .over) ≡ rule9 b n
   by-over = read .nine ∙ sym (nine-all b dsds k placed n)
 
@@ -221,7 +216,7 @@ module _ (b : List ℕ) (n dsds k : ℕ) (placed : Dsds b dsds k) (r : Reading) 
     unfolding rule11 dataSets
     by-numbers = rw (ten-all b dsds k placed n, read .ten nine-ok, length-all b dsds k placed, ← read .eleven nine-ok)
 
-    pub by-sets : r .sets ≡ setsOf (directory b)
+    pub by-sets : sets ≡ setsOf (directory b)
     by-sets = read .read nine-ok
 
 module _ (b : List ℕ) (n end k : ℕ) (headers : Headers b end k) where
@@ -231,14 +226,14 @@ module _ (b : List ℕ) (n end k : ℕ) (headers : Headers b end k) where
 
 -- ---- what is told to the last checks
 
-module _ (b : List ℕ) (n end k : ℕ) (headers : Headers b end k) (r : Reading) (read : ReadAll b (end - 280 * k) k r) where
+module _ (b : List ℕ) (n end k : ℕ) (headers : Headers b end k) (r : Reading) (sets : Sets) (read : ReadAll b (end - 280 * k) k r sets) where
   -- v is what rules 12 to 14 are answered of the numbers read
   pub by-held : {v : Answer} → (rule7 b n orElse rule8 b n) ≡ accepted → rule9 b n ≡ accepted → (rule10 b n orElse rule11 b n) ≡ accepted
-      → ((ds : List Entry) → Held ds (r .sets .offsets) (r .sets .sizes) → length ds ≡ k
+      → ((ds : List Entry) → Held ds (sets .offsets) (sets .sizes) → length ds ≡ k
       → v ≡ (first (rule12At ds end n) 0 k orElse (first (rule13At ds) 0 k orElse first (rule14At ds) end (n - end))))
       → v ≡ (rule12 b n orElse (rule13 b n orElse rule14 b n))
   by-held a o m h =
       h (directory b)
-      (held b (r .sets) (by-sets b n (end - 280 * k) k (dsds-of headers) r read o) n (orElse-accepts (rule7 b n) (rule8 b n) .0 a .1) (orElse-accepts (rule10 b n) (rule11 b n) .0 m .0))
+      (held b sets (by-sets b n (end - 280 * k) k (dsds-of headers) r sets read o) n (orElse-accepts (rule7 b n) (rule8 b n) .0 a .1) (orElse-accepts (rule10 b n) (rule11 b n) .0 m .0))
       (length-all b (end - 280 * k) k (dsds-of headers))
       ∙ by-places b n end k headers

@@ -13,7 +13,7 @@ use Rattle.layout.specs.Rules.{rule7, rule8, rule9At, rule9, rule10At, rule10, 
 use Rattle.layout.specs.Answers.{padded, typeOf, countOf, recordSizeOf, verdictIs}
 use Rattle.directory.specs.declared.Sets.{Sets}
 use Rattle.directory.specs.declared.Reading.{Reading}
-use Rattle.directory.specs.declared.DirectoryCheck.{DirectoryCheck}
+use Rattle.layout.specs.declared.Verdict.{Verdict}
 use Rattle.directory.specs.Held.{roleOf}
 
 unfoldable pub rules7to14 : List ℕ → ℕ → Answer
@@ -48,11 +48,6 @@ abbrev pub noSets : Sets
 noSets =
     together 0 (replicate 128 0) (replicate 128 0) (replicate 128 0) (replicate 128 0) (replicate 128 (pos 0)) (replicate 128 0)
 
--- the numbers where the answer accepts, else none
-abbrev pub setsFor : Answer → List ℕ → Sets
-setsFor accepted b = setsOf (directory b)
-setsFor (refused n p e) b = noSets
-
 -- the first i entries
 unfoldable pub entriesTo : List ℕ → ℕ → List Entry
 entriesTo b i = map (entryAt b) (upto 0 i)
@@ -75,15 +70,15 @@ pub record Dsds (b : List ℕ) (dsds n : ℕ) : Type 0 where
   pub behind : 1247 ≤ dsds
   pub inside : dsds + 280 * n ≤ length b
 
--- what one reading of the entries answers; where rule 9 refuses, nothing of the numbers
-pub record ReadAll (b : List ℕ) (dsds n : ℕ) (r : Reading) : Type 0 where
+-- what one reading of the entries answers, with the numbers read; where rule 9 refuses, nothing of the numbers
+pub record ReadAll (b : List ℕ) (dsds n : ℕ) (r : Reading) (sets : Sets) : Type 0 where
   pub nine : verdictIs (r .over) ≡ first (rule9At b) 0 n
   pub within : r .fitting ≤ n
   pub ten : first (rule9At b) 0 n ≡ accepted → first (rule10At b) 0 n ≡ need (eqb (r .fitting) n) 10 (dsds + 280 * r .fitting) (r .fitting)
   pub eleven : first (rule9At b) 0 n ≡ accepted → r .counted ≡ count (isDataAt (directory b)) 0 n
-  pub read : first (rule9At b) 0 n ≡ accepted → r .sets ≡ setsOf (directory b)
+  pub read : first (rule9At b) 0 n ≡ accepted → sets ≡ setsOf (directory b)
 
--- the check of a product of n bytes; beside a refusal all numbers are zero
-pub record Checked (b : List ℕ) (n : ℕ) (r : DirectoryCheck) : Type 0 where
-  pub verdict : verdictIs (r .verdict) ≡ rules7to14 b n
-  pub sets : r .sets ≡ setsFor (rules7to14 b n) b
+-- the check of a product of n bytes, with the numbers read; where a rule refuses, nothing of the numbers
+pub record Checked (b : List ℕ) (n : ℕ) (r : Verdict) (sets : Sets) : Type 0 where
+  pub verdict : verdictIs r ≡ rules7to14 b n
+  pub read : rules7to14 b n ≡ accepted → sets ≡ setsOf (directory b)

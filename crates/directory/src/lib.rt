@@ -284,7 +284,7 @@ pub struct Sets {
 }
 
 impl Sets {
-    fn of(
+    pub fn of(
         entries: usize,
         types: [u8; 128],
         offsets: [u64; 128],
@@ -349,13 +349,12 @@ fn check_dsds(p: &[u8], dsds: usize, entries: usize) -> layout::Verdict
     layout::Verdict::Accepted
 }
 
-// What one reading of the entries gives: rule 9's verdict and, where it accepts, how many entries in a row have numbers that fit (rule 10), how many
-// are counted (rule 11), and the numbers.
+// What one reading of the entries gives: rule 9's verdict and, where it accepts, how many entries in a row have numbers that fit (rule 10) and how many
+// are counted (rule 11).
 struct Reading {
     over: layout::Verdict,
     fitting: usize,
     counted: usize,
-    sets: Sets,
 }
 
 fn over_reading(place: usize, entry: usize) -> Reading
@@ -365,21 +364,24 @@ fn over_reading(place: usize, entry: usize) -> Reading
         over: refuse(9, place as u64, entry),
         fitting: 0,
         counted: 0,
-        sets: Sets::none(),
     }
 }
 
-// One reading of the entries.
-fn read_sets(p: &[u8], dsds: usize, entries: usize) -> Reading
-    requires { ⌜ Dsds (now p) dsds entries ⌝ }
-    ensures { λ r. ⌜ ReadAll (now (p .entry)) dsds entries r ⌝ }
+// One reading of the entries. The arrays are lent: one that a call answers is copied at each return.
+fn read_sets(
+    p: &[u8],
+    dsds: usize,
+    entries: usize,
+    types: &mut [u8; 128],
+    offsets: &mut [u64; 128],
+    sizes: &mut [u64; 128],
+    counts: &mut [u64; 128],
+    record_sizes: &mut [i64; 128],
+    roles: &mut [u8; 128],
+) -> Reading
+    requires { ⌜ Dsds (now p) dsds entries × (together 0 (now types) (now offsets) (now sizes) (now counts) (now «record_sizes») (now roles) ≡ noSets) ⌝ }
+    ensures { λ r. ⌜ ReadAll (now (p .entry)) dsds entries r (together entries (now (types .exit)) (now (offsets .exit)) (now (sizes .exit)) (now (counts .exit)) (now («record_sizes» .exit)) (now (roles .exit))) ⌝ }
 {
-    let mut types = [0u8; 128];
-    let mut offsets = [0u64; 128];
-    let mut sizes = [0u64; 128];
-    let mut counts = [0u64; 128];
-    let mut record_sizes = [0i64; 128];
-    let mut roles = [0u8; 128];
     let mut fitting = 0;
     let mut counted = 0;
     let mut i = 0;
@@ -404,7 +406,6 @@ fn read_sets(p: &[u8], dsds: usize, entries: usize) -> Reading
         over: layout::Verdict::Accepted,
         fitting,
         counted,
-        sets: Sets::of(entries, types, offsets, sizes, counts, record_sizes, roles),
     }
 }
 
@@ -470,55 +471,47 @@ fn check_places<'a>(
     layout::Verdict::Accepted
 }
 
-// What the check of a directory answers; beside a refusal all numbers are zero.
-pub struct DirectoryCheck {
-    pub verdict: layout::Verdict,
-    pub sets: Sets,
-}
-
-fn refused_check(refusal: layout::Refusal) -> DirectoryCheck
-    ensures { λ r. ⌜ (verdictIs (r .verdict) ≡ refused (refusal .number) (refusal .place) (refusal .entry)) × (r .sets ≡ noSets) ⌝ }
-{
-    DirectoryCheck {
-        verdict: layout::Verdict::Refused(refusal),
-        sets: Sets::none(),
-    }
-}
-
-// Rules 7 to 14, of a product of `length` bytes whose headers are at hand.
-pub fn check_directory(p: &[u8], length: u64, headers_end: usize, entries: usize) -> DirectoryCheck
-    requires { ⌜ Headers (now p) «headers_end» entries ⌝ }
-    ensures { λ r. ⌜ Checked (now (p .entry)) length r ⌝ }
+// Rules 7 to 14, of a product of `length` bytes whose headers are at hand. Where they accept, the arrays of zeros that are lent have the numbers.
+pub fn check_directory(
+    p: &[u8],
+    length: u64,
+    headers_end: usize,
+    entries: usize,
+    types: &mut [u8; 128],
+    offsets: &mut [u64; 128],
+    sizes: &mut [u64; 128],
+    counts: &mut [u64; 128],
+    record_sizes: &mut [i64; 128],
+    roles: &mut [u8; 128],
+) -> layout::Verdict
+    requires { ⌜ Headers (now p) «headers_end» entries × (together 0 (now types) (now offsets) (now sizes) (now counts) (now «record_sizes») (now roles) ≡ noSets) ⌝ }
+    ensures { λ r. ⌜ Checked (now (p .entry)) length r (together entries (now (types .exit)) (now (offsets .exit)) (now (sizes .exit)) (now (counts .exit)) (now («record_sizes» .exit)) (now (roles .exit))) ⌝ }
 {
     let dsds = headers_end - Entry::SIZE * entries;
     let text = check_text(p, dsds, entries);
     if let layout::Verdict::Refused(refusal) = text {
-        return refused_check(refusal);
+        return layout::Verdict::Refused(refusal);
     }
-    let reading = read_sets(p, dsds, entries);
+    let reading = read_sets(
+        p,
+        dsds,
+        entries,
+        types,
+        offsets,
+        sizes,
+        counts,
+        record_sizes,
+        roles,
+    );
     let over = reading.over;
     if let layout::Verdict::Refused(refusal) = over {
-        return refused_check(refusal);
+        return layout::Verdict::Refused(refusal);
     }
     let numbers = check_numbers(p, dsds, entries, reading.fitting, reading.counted);
     if let layout::Verdict::Refused(refusal) = numbers {
-        return refused_check(refusal);
+        return layout::Verdict::Refused(refusal);
     }
-    let read = reading.sets;
-    let places = check_places(
-        &read.offsets,
-        &read.sizes,
-        entries,
-        headers_end as u64,
-        length,
-    );
-    if let layout::Verdict::Refused(refusal) = places {
-        return refused_check(refusal);
-    }
-    DirectoryCheck {
-        verdict: layout::Verdict::Accepted,
-        sets: read,
-    }
+    check_places(offsets, sizes, entries, headers_end as u64, length)
 }
 
 // `width` bytes from `from` on go to `to`.

@@ -17,9 +17,8 @@ use Rattle.layout.specs.declared.Verdict.the-variants.{Accepted, Refused}
 use Rattle.layout.proofs.Laws.{orElse-assoc, orElse-accepts, orElse-accepted, accepted≢refused}
 use Rattle.header.specs.Checks.{rules1to6, HeaderChecked, HeadersFit}
 use Rattle.header.specs.declared.HeaderCheck.{HeaderCheck}
-use Rattle.directory.specs.Checks.{rules7to14, setsOf, setsFor, Headers, Checked}
+use Rattle.directory.specs.Checks.{rules7to14, setsOf, Headers, Checked}
 use Rattle.directory.specs.declared.Sets.{Sets}
-use Rattle.directory.specs.declared.DirectoryCheck.{DirectoryCheck}
 use Rattle.opening.specs.Opening.{Laid, closed, Opened}
 use Rattle.opening.specs.declared.Opening.{Opening}
 
@@ -66,25 +65,25 @@ module _ (b : List ℕ) where
       pub headers : Headers b (header .«headers_end») (header .entries)
       headers = record { ends = fit .end-is; all = fit .entries-are; most = fit .entries-most; room = fit .dsds-fit; inside = fit .inside }
 
-      module _ (found : DirectoryCheck) (listed : Checked b (length b) found) where
-        pub directory-refused : (r : Refusal) (x : Opening) → x ≡ closed r → found .verdict ≡ Refused r → Opened b x
-        directory-refused r x q h = refuses r x q (sym (in-parts ∙ rw (six, told (found .verdict) r (rules7to14 b (length b)) h (listed .verdict))))
+      module _ (found : Verdict) (numbers : Sets) (listed : Checked b (length b) found numbers) where
+        pub directory-refused : (r : Refusal) (x : Opening) → x ≡ closed r → found ≡ Refused r → Opened b x
+        directory-refused r x q h = refuses r x q (sym (in-parts ∙ rw (six, told found r (rules7to14 b (length b)) h (listed .verdict))))
 
-        module _ (fine : found .verdict ≡ Accepted) where
+        module _ (fine : found ≡ Accepted) where
           fourteen : rules7to14 b (length b) ≡ accepted
-          fourteen = passed (found .verdict) (rules7to14 b (length b)) fine (listed .verdict)
+          fourteen = passed found (rules7to14 b (length b)) fine (listed .verdict)
 
-          pub laid : Laid b (found .sets)
-          laid = record { rules = headers-in-parts ∙ rw (six, fourteen); held = listed .sets ∙ rw fourteen }
+          pub laid : (sets : Sets) → sets ≡ numbers → Laid b sets
+          laid sets q = record { rules = headers-in-parts ∙ rw (six, fourteen); held = q ∙ listed .read fourteen }
 
           pub states-refused : (v : Verdict) (r : Refusal) (x : Opening) → x ≡ closed r → v ≡ Refused r → verdictIs v ≡ states → Opened b x
           states-refused v r x q h j = refuses r x q (sym (in-parts ∙ rw (six, fourteen, told v r states h j)))
 
-          pub opened : (v : Verdict) → v ≡ Accepted → verdictIs v ≡ states → Opened b (record { verdict = Accepted; «headers_end» = header .«headers_end»; sets = found .sets })
+          pub opened : (v : Verdict) → v ≡ Accepted → verdictIs v ≡ states → (sets : Sets) → sets ≡ numbers → Opened b (record { verdict = Accepted; «headers_end» = header .«headers_end»; sets = sets })
           unfolding verdictIs
-          opened v h j =
+          opened v h j sets q =
               record {
                 judged = sym (in-parts ∙ rw (six, fourteen, passed v states h j));
                 end = λ a. fit .end-is;
-                held = λ a. laid .held;
+                held = λ a. laid sets q .held;
               }

@@ -155,20 +155,39 @@ pub fn open_product(p: &[u8]) -> Opening
     if let Verdict::Refused(refusal) = first {
         return refused_opening(refusal);
     }
-    let checked = directory::check_directory(p, length, header.headers_end, header.entries);
-    let second = checked.verdict;
+    // Made here and lent: the numbers are copied once, into the answer.
+    let mut types = [0u8; 128];
+    let mut offsets = [0u64; 128];
+    let mut sizes = [0u64; 128];
+    let mut counts = [0u64; 128];
+    let mut record_sizes = [0i64; 128];
+    let mut roles = [0u8; 128];
+    let entries = header.entries;
+    let second = directory::check_directory(
+        p,
+        length,
+        header.headers_end,
+        entries,
+        &mut types,
+        &mut offsets,
+        &mut sizes,
+        &mut counts,
+        &mut record_sizes,
+        &mut roles,
+    );
     if let Verdict::Refused(refusal) = second {
         return refused_opening(refusal);
     }
-    // Not from a local, which would be one more copy of the numbers, 4.5 kB.
-    let third = judge_states(p, checked.sets);
+    let third = judge_states(
+        p,
+        Sets::of(entries, types, offsets, sizes, counts, record_sizes, roles),
+    );
     if let Verdict::Refused(refusal) = third {
         return refused_opening(refusal);
     }
-    let sets = checked.sets;
     Opening {
         verdict: Verdict::Accepted,
         headers_end: header.headers_end,
-        sets,
+        sets: Sets::of(entries, types, offsets, sizes, counts, record_sizes, roles),
     }
 }

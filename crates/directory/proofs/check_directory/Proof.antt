@@ -6,7 +6,7 @@ use native.Mathlib.Omega.{arith}
 use Rattle.layout.specs.Answer.{accepted, _orElse_}
 use Rattle.layout.specs.Answers.{verdictIs}
 use Rattle.layout.specs.Rules.{rule7, rule8, rule9, rule10, rule11, rule12, rule13, rule14}
-use Rattle.directory.proofs.Rules.{dsds-of, stopped, stop-text, stop-over, stop-numbers, stop-places, passed, by-over, by-numbers, by-sets, by-held}
+use Rattle.directory.proofs.Rules.{dsds-of, stopped, stop-text, stop-over, stop-numbers, passed, by-over, by-numbers, by-sets, by-held}
 use borrow.Author.Needs.{needs}
 use Rattle.directory.proofs.check_directory.Statement.{statement}
 use Rattle.directory.proofs.check_directory.Tie as tie
@@ -17,23 +17,23 @@ text-passes : (c : tie.After-enum-told) → (rule7 (c .before .before .before .b
 unfolding verdictIs
 text-passes c = sym (c .before .before .check-text .ensures (c .before .before .before .before .args .length)) ∙ ap verdictIs (c .enum-told .given .1)
 
-over-is : (c : tie.After-read-sets) → verdictIs (c .read-sets .result .over) ≡ rule9 (c .before .before .before .before .before .args .p .now) (c .before .before .before .before .before .args .length)
-over-is c = by-over (c .before .before .before .before .before .args .p .now) (c .before .before .before .before .before .args .length) (c .before .before .before .before .before .args .headers-end - 280 * c .before .before .before .before .before .args .entries) (c .before .before .before .before .before .args .entries) (dsds-of (c .before .before .before .before .before .pre)) (c .read-sets .result) (c .read-sets .ensures)
+over-is : (c : tie.After-read-sets) → verdictIs (c .read-sets .result .over) ≡ rule9 (c .before .before .before .before .before .before .before .before .before .before .before .args .p .now) (c .before .before .before .before .before .before .before .before .before .before .before .args .length)
+over-is c = by-over (c .before .before .before .before .before .before .before .before .before .before .before .args .p .now) (c .before .before .before .before .before .before .before .before .before .before .before .args .length) (c .before .before .before .before .before .before .before .before .before .before .before .args .headers-end - 280 * c .before .before .before .before .before .before .before .before .before .before .before .args .entries) (c .before .before .before .before .before .before .before .before .before .before .before .args .entries) (dsds-of (c .before .before .before .before .before .before .before .before .before .before .before .pre .0)) (c .read-sets .result) _ (c .read-sets .ensures)
 
-over-passes : (c : tie.After-enum-told2) → rule9 (c .before .before .before .before .before .before .before .args .p .now) (c .before .before .before .before .before .before .before .args .length) ≡ accepted
+over-passes : (c : tie.After-enum-told2) → rule9 (c .before .before .before .before .before .before .before .before .before .before .before .before .before .args .p .now) (c .before .before .before .before .before .before .before .before .before .before .before .before .before .args .length) ≡ accepted
 unfolding verdictIs
 over-passes c = sym (over-is (c .before .before)) ∙ ap verdictIs (c .enum-told2 .given .1)
 
-numbers-is : (c : tie.After-check-numbers) → verdictIs (c .check-numbers .result) ≡ (rule10 (c .before .before .before .before .before .before .before .before .args .p .now) (c .before .before .before .before .before .before .before .before .args .length) orElse rule11 (c .before .before .before .before .before .before .before .before .args .p .now) (c .before .before .before .before .before .before .before .before .args .length))
-numbers-is c = c .check-numbers .ensures ∙ by-numbers (c .before .before .before .before .before .before .before .before .args .p .now) (c .before .before .before .before .before .before .before .before .args .length) (c .before .before .before .before .before .before .before .before .args .headers-end - 280 * c .before .before .before .before .before .before .before .before .args .entries) (c .before .before .before .before .before .before .before .before .args .entries) (dsds-of (c .before .before .before .before .before .before .before .before .pre)) (c .before .before .before .read-sets .result) (c .before .before .before .read-sets .ensures) (over-passes (c .before))
+numbers-is : (c : tie.After-check-numbers) → verdictIs (c .check-numbers .result) ≡ (rule10 (c .before .before .before .before .before .before .before .before .before .before .before .before .before .before .args .p .now) (c .before .before .before .before .before .before .before .before .before .before .before .before .before .before .args .length) orElse rule11 (c .before .before .before .before .before .before .before .before .before .before .before .before .before .before .args .p .now) (c .before .before .before .before .before .before .before .before .before .before .before .before .before .before .args .length))
+numbers-is c = c .check-numbers .ensures ∙ by-numbers (c .before .before .before .before .before .before .before .before .before .before .before .before .before .before .args .p .now) (c .before .before .before .before .before .before .before .before .before .before .before .before .before .before .args .length) (c .before .before .before .before .before .before .before .before .before .before .before .before .before .before .args .headers-end - 280 * c .before .before .before .before .before .before .before .before .before .before .before .before .before .before .args .entries) (c .before .before .before .before .before .before .before .before .before .before .before .before .before .before .args .entries) (dsds-of (c .before .before .before .before .before .before .before .before .before .before .before .before .before .before .pre .0)) (c .before .before .before .read-sets .result) _ (c .before .before .before .read-sets .ensures) (over-passes (c .before))
 
-numbers-passes : (c : tie.After-enum-told3) → (rule10 (c .before .before .before .before .before .before .before .before .before .before .args .p .now) (c .before .before .before .before .before .before .before .before .before .before .args .length) orElse rule11 (c .before .before .before .before .before .before .before .before .before .before .args .p .now) (c .before .before .before .before .before .before .before .before .before .before .args .length)) ≡ accepted
+numbers-passes : (c : tie.After-enum-told3) → (rule10 (c .before .before .before .before .before .before .before .before .before .before .before .before .before .before .before .before .args .p .now) (c .before .before .before .before .before .before .before .before .before .before .before .before .before .before .before .before .args .length) orElse rule11 (c .before .before .before .before .before .before .before .before .before .before .before .before .before .before .before .before .args .p .now) (c .before .before .before .before .before .before .before .before .before .before .before .before .before .before .before .before .args .length)) ≡ accepted
 unfolding verdictIs
 numbers-passes c = sym (numbers-is (c .before .before)) ∙ ap verdictIs (c .enum-told3 .given .1)
 
-places-is : (c : tie.After-check-places) → verdictIs (c .check-places .result) ≡ (rule12 (c .before .before .before .before .before .before .before .before .before .before .before .before .before .before .before .args .p .now) (c .before .before .before .before .before .before .before .before .before .before .before .before .before .before .before .args .length) orElse (rule13 (c .before .before .before .before .before .before .before .before .before .before .before .before .before .before .before .args .p .now) (c .before .before .before .before .before .before .before .before .before .before .before .before .before .before .before .args .length) orElse rule14 (c .before .before .before .before .before .before .before .before .before .before .before .before .before .before .before .args .p .now) (c .before .before .before .before .before .before .before .before .before .before .before .before .before .before .before .args .length)))
+places-is : (c : tie.After-check-places) → verdictIs (c .check-places .result) ≡ (rule12 (c .before .before .before .before .before .before .before .before .before .before .before .before .before .before .before .before .before .before .before .args .p .now) (c .before .before .before .before .before .before .before .before .before .before .before .before .before .before .before .before .before .before .before .args .length) orElse (rule13 (c .before .before .before .before .before .before .before .before .before .before .before .before .before .before .before .before .before .before .before .args .p .now) (c .before .before .before .before .before .before .before .before .before .before .before .before .before .before .before .before .before .before .before .args .length) orElse rule14 (c .before .before .before .before .before .before .before .before .before .before .before .before .before .before .before .before .before .before .before .args .p .now) (c .before .before .before .before .before .before .before .before .before .before .before .before .before .before .before .before .before .before .before .args .length)))
 places-is c =
-    by-held (c .before .before .before .before .before .before .before .before .before .before .before .before .before .before .before .args .p .now) (c .before .before .before .before .before .before .before .before .before .before .before .before .before .before .before .args .length) (c .before .before .before .before .before .before .before .before .before .before .before .before .before .before .before .args .headers-end) (c .before .before .before .before .before .before .before .before .before .before .before .before .before .before .before .args .entries) (c .before .before .before .before .before .before .before .before .before .before .before .before .before .before .before .pre) (c .before .before .before .before .before .before .before .before .before .before .read-sets .result) (c .before .before .before .before .before .before .before .before .before .before .read-sets .ensures) (text-passes (c .before .before .before .before .before .before .before .before .before .before .before)) (over-passes (c .before .before .before .before .before .before .before .before)) (numbers-passes (c .before .before .before .before .before))
+    by-held (c .before .before .before .before .before .before .before .before .before .before .before .before .before .before .before .before .before .before .before .args .p .now) (c .before .before .before .before .before .before .before .before .before .before .before .before .before .before .before .before .before .before .before .args .length) (c .before .before .before .before .before .before .before .before .before .before .before .before .before .before .before .before .before .before .before .args .headers-end) (c .before .before .before .before .before .before .before .before .before .before .before .before .before .before .before .before .before .before .before .args .entries) (c .before .before .before .before .before .before .before .before .before .before .before .before .before .before .before .before .before .before .before .pre .0) (c .before .before .before .before .before .before .before .before .read-sets .result) _ (c .before .before .before .before .before .before .before .before .read-sets .ensures) (text-passes (c .before .before .before .before .before .before .before .before .before .before .before .before .before .before .before)) (over-passes (c .before .before .before .before .before .before)) (numbers-passes (c .before .before .before))
     (c .check-places .ensures)
 
 mul-dsds : tie.Need-mul-dsds
@@ -43,79 +43,53 @@ sub-dsds : tie.Need-sub-dsds
 sub-dsds c = omega arith
 
 check-text-requires : tie.Need-check-text-requires
-check-text-requires c κs = dsds-of (c .before .pre)
+check-text-requires c κs = dsds-of (c .before .pre .0)
 
 enum-known-text : tie.Need-enum-known-text
 enum-known-text c = search needs
 
-refused-check-requires : tie.Need-refused-check-requires
-refused-check-requires c κs = search needs
-
 returns : tie.Need-returns
 unfolding verdictIs
-returns c = stopped (c .before .before .before .before .before .before .args .p .now) (c .before .before .before .before .before .before .args .length) (c .refused-check .result) (stop-text (c .before .before .before .before .before .before .args .p .now) (c .before .before .before .before .before .before .args .length) (sym (ap verdictIs (c .before .before .text .given .1)) ∙ c .before .before .before .before .check-text .ensures (c .before .before .before .before .before .before .args .length))) (c .refused-check .ensures)
+returns c = stopped (c .before .before .before .before .before .args .p .now) (c .before .before .before .before .before .args .length) _ _ (stop-text (c .before .before .before .before .before .args .p .now) (c .before .before .before .before .before .args .length) (sym (ap verdictIs (c .before .text .given .1)) ∙ c .before .before .before .check-text .ensures (c .before .before .before .before .before .args .length))) refl
 
 enum-told : tie.Need-enum-told
 enum-told c = search needs
 
 read-sets-requires : tie.Need-read-sets-requires
-read-sets-requires c κs = dsds-of (c .before .before .before .before .pre)
+read-sets-requires c κs = (dsds-of (c .before .before .before .before .before .before .before .before .before .before .pre .0), c .before .before .before .before .before .before .before .before .before .before .pre .1)
 
 enum-known-over : tie.Need-enum-known-over
 enum-known-over c = search needs
 
-refused-check-requires-2 : tie.Need-refused-check-requires-2
-refused-check-requires-2 c κs = search needs
-
 returns-2 : tie.Need-returns-2
 unfolding verdictIs
 returns-2 c =
-    stopped (c .before .before .before .before .before .before .before .before .before .args .p .now) (c .before .before .before .before .before .before .before .before .before .args .length) (c .refused-check2 .result) (stop-over (c .before .before .before .before .before .before .before .before .before .args .p .now) (c .before .before .before .before .before .before .before .before .before .args .length) (text-passes (c .before .before .before .before .before)) (sym (ap verdictIs (c .before .before .over .given .1)) ∙ over-is (c .before .before .before .before))) (c .refused-check2 .ensures)
+    stopped (c .before .before .before .before .before .before .before .before .before .before .before .before .before .before .args .p .now) (c .before .before .before .before .before .before .before .before .before .before .before .before .before .before .args .length) _ _ (stop-over (c .before .before .before .before .before .before .before .before .before .before .before .before .before .before .args .p .now) (c .before .before .before .before .before .before .before .before .before .before .before .before .before .before .args .length) (text-passes (c .before .before .before .before .before .before .before .before .before .before)) (sym (ap verdictIs (c .before .over .given .1)) ∙ over-is (c .before .before .before))) refl
 
 enum-told-2 : tie.Need-enum-told-2
 enum-told-2 c = search needs
 
 check-numbers-requires : tie.Need-check-numbers-requires
-check-numbers-requires c κs = (dsds-of (c .before .before .before .before .before .before .before .pre), c .before .before .read-sets .ensures .within)
+check-numbers-requires c κs = (dsds-of (c .before .before .before .before .before .before .before .before .before .before .before .before .before .pre .0), c .before .before .read-sets .ensures .within)
 
 enum-known-numbers : tie.Need-enum-known-numbers
 enum-known-numbers c = search needs
 
-refused-check-requires-3 : tie.Need-refused-check-requires-3
-refused-check-requires-3 c κs = search needs
-
 returns-3 : tie.Need-returns-3
 unfolding verdictIs
 returns-3 c =
-    stopped (c .before .before .before .before .before .before .before .before .before .before .before .before .args .p .now) (c .before .before .before .before .before .before .before .before .before .before .before .before .args .length) (c .refused-check3 .result) (stop-numbers (c .before .before .before .before .before .before .before .before .before .before .before .before .args .p .now) (c .before .before .before .before .before .before .before .before .before .before .before .before .args .length) (text-passes (c .before .before .before .before .before .before .before .before)) (over-passes (c .before .before .before .before .before)) (sym (ap verdictIs (c .before .before .numbers .given .1)) ∙ numbers-is (c .before .before .before .before))) (c .refused-check3 .ensures)
+    stopped (c .before .before .before .before .before .before .before .before .before .before .before .before .before .before .before .before .before .args .p .now) (c .before .before .before .before .before .before .before .before .before .before .before .before .before .before .before .before .before .args .length) _ _ (stop-numbers (c .before .before .before .before .before .before .before .before .before .before .before .before .before .before .before .before .before .args .p .now) (c .before .before .before .before .before .before .before .before .before .before .before .before .before .before .before .before .before .args .length) (text-passes (c .before .before .before .before .before .before .before .before .before .before .before .before .before)) (over-passes (c .before .before .before .before)) (sym (ap verdictIs (c .before .numbers .given .1)) ∙ numbers-is (c .before .before .before))) refl
 
 enum-told-3 : tie.Need-enum-told-3
 enum-told-3 c = search needs
 
 check-places-requires : tie.Need-check-places-requires
-check-places-requires c κs = c .before .before .before .before .before .before .before .before .before .before .before .before .before .before .pre .most
-
-enum-known-places : tie.Need-enum-known-places
-enum-known-places c = search needs
-
-refused-check-requires-4 : tie.Need-refused-check-requires-4
-refused-check-requires-4 c κs = search needs
+check-places-requires c κs = search needs
 
 returns-4 : tie.Need-returns-4
-unfolding verdictIs
 returns-4 c =
-    stopped (c .before .before .before .before .before .before .before .before .before .before .before .before .before .before .before .before .before .before .before .args .p .now) (c .before .before .before .before .before .before .before .before .before .before .before .before .before .before .before .before .before .before .before .args .length) (c .refused-check4 .result)
-    (stop-places (c .before .before .before .before .before .before .before .before .before .before .before .before .before .before .before .before .before .before .before .args .p .now) (c .before .before .before .before .before .before .before .before .before .before .before .before .before .before .before .before .before .before .before .args .length) (text-passes (c .before .before .before .before .before .before .before .before .before .before .before .before .before .before .before)) (over-passes (c .before .before .before .before .before .before .before .before .before .before .before .before)) (numbers-passes (c .before .before .before .before .before .before .before .before .before)) (sym (ap verdictIs (c .before .before .places .given .1)) ∙ places-is (c .before .before .before .before)))
-    (c .refused-check4 .ensures)
-
-enum-told-4 : tie.Need-enum-told-4
-enum-told-4 c = search needs
-
-returns-5 : tie.Need-returns-5
-unfolding verdictIs
-returns-5 c =
-    passed (c .before .before .before .before .before .before .before .before .before .before .before .before .before .before .before .before .before .args .p .now) (c .before .before .before .before .before .before .before .before .before .before .before .before .before .before .before .before .before .args .length) _ (text-passes (c .before .before .before .before .before .before .before .before .before .before .before .before .before)) (over-passes (c .before .before .before .before .before .before .before .before .before .before)) (numbers-passes (c .before .before .before .before .before .before .before)) (sym (places-is (c .before .before)) ∙ ap verdictIs (c .enum-told4 .given .1)) refl
-    (by-sets (c .before .before .before .before .before .before .before .before .before .before .before .before .before .before .before .before .before .args .p .now) (c .before .before .before .before .before .before .before .before .before .before .before .before .before .before .before .before .before .args .length) (c .before .before .before .before .before .before .before .before .before .before .before .before .before .before .before .before .before .args .headers-end - 280 * c .before .before .before .before .before .before .before .before .before .before .before .before .before .before .before .before .before .args .entries) (c .before .before .before .before .before .before .before .before .before .before .before .before .before .before .before .before .before .args .entries) (dsds-of (c .before .before .before .before .before .before .before .before .before .before .before .before .before .before .before .before .before .pre)) (c .before .before .before .before .before .before .before .before .before .before .before .before .read-sets .result) (c .before .before .before .before .before .before .before .before .before .before .before .before .read-sets .ensures) (over-passes (c .before .before .before .before .before .before .before .before .before .before)))
+    passed (c .before .before .before .before .before .before .before .before .before .before .before .before .before .before .before .before .before .before .before .args .p .now) (c .before .before .before .before .before .before .before .before .before .before .before .before .before .before .before .before .before .before .before .args .length) _ _ (text-passes (c .before .before .before .before .before .before .before .before .before .before .before .before .before .before .before)) (over-passes (c .before .before .before .before .before .before)) (numbers-passes (c .before .before .before)) (places-is c)
+    (by-sets (c .before .before .before .before .before .before .before .before .before .before .before .before .before .before .before .before .before .before .before .args .p .now) (c .before .before .before .before .before .before .before .before .before .before .before .before .before .before .before .before .before .before .before .args .length) (c .before .before .before .before .before .before .before .before .before .before .before .before .before .before .before .before .before .before .before .args .headers-end - 280 * c .before .before .before .before .before .before .before .before .before .before .before .before .before .before .before .before .before .before .before .args .entries) (c .before .before .before .before .before .before .before .before .before .before .before .before .before .before .before .before .before .before .before .args .entries) (dsds-of (c .before .before .before .before .before .before .before .before .before .before .before .before .before .before .before .before .before .before .before .pre .0)) (c .before .before .before .before .before .before .before .before .read-sets .result) _ (c .before .before .before .before .before .before .before .before .read-sets .ensures) (over-passes (c .before .before .before .before .before .before)))
 
 pub check-directory-spec : {M : Type 1} → statement M
 check-directory-spec =
@@ -125,22 +99,15 @@ check-directory-spec =
     sub-dsds
     check-text-requires
     enum-known-text
-    refused-check-requires
     returns
     enum-told
     read-sets-requires
     enum-known-over
-    refused-check-requires-2
     returns-2
     enum-told-2
     check-numbers-requires
     enum-known-numbers
-    refused-check-requires-3
     returns-3
     enum-told-3
     check-places-requires
-    enum-known-places
-    refused-check-requires-4
-    returns-4
-    enum-told-4
-    returns-5)
+    returns-4)

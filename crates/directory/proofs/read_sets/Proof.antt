@@ -1,10 +1,10 @@
--- `directory::read_sets` meets its contract: the arrays hold the entries read so far, what is left of rule 9 from `i` on is the whole, and rule 10
+-- `directory::read_sets` meets its contract: the arrays lent hold the entries read so far, what is left of rule 9 from `i` on is the whole, and rule 10
 -- and the count are those of the entries read so far.
 -- Assumes nothing.
 use borrow.Author.Needs.{needs}
 use Prim.Native.Nat.{_+_, _*_, _-_, _≤_}
 use mathlib.Core.List.{map}
-use mathlib.Core.Path.{_≡_, sym, _∙_}
+use mathlib.Core.Path.{_≡_, sym, ap, _∙_}
 use native.Mathlib.Omega.{arith}
 use mir.Syntax.{w64}
 use mir.Facts.{toZ-ofZ}
@@ -18,6 +18,7 @@ use Rattle.layout.specs.Rules.{rule9At, rule10At, isDataAt}
 use Rattle.layout.proofs.Laws.{accepted≢refused}
 use Rattle.directory.specs.Held.{viewOf, roleOf}
 use Rattle.directory.specs.Checks.{entriesTo}
+use Rattle.directory.specs.declared.Sets.{Sets}
 use Rattle.directory.proofs.Turns.{Turn, turn, over-most, nine-refused, nine-accepted, ten}
 use Rattle.directory.proofs.Loops.{left-all, left-refused, left-next, left-end, none-first, none-counted, none-held, one-more, ten-next, eleven-next, sets-read}
 use Rattle.directory.proofs.read_sets.Statement.{statement}
@@ -50,12 +51,12 @@ loop-holds c = (
   none-first (rule10At (c .before .args .p .now)) (c .before .args .dsds),
   omega arith,
   none-counted (isDataAt (directory (c .before .args .p .now))),
-  none-held typeOf 0 (c .before .args .p .now),
-  none-held start 0 (c .before .args .p .now),
-  none-held extent 0 (c .before .args .p .now),
-  none-held countOf 0 (c .before .args .p .now),
-  none-held recordSizeOf (pos 0) (c .before .args .p .now),
-  none-held roleOf 0 (c .before .args .p .now),
+  ap (λ (s : Sets). s .types) (c .before .pre .1) ∙ none-held typeOf 0 (c .before .args .p .now),
+  ap (λ (s : Sets). s .offsets) (c .before .pre .1) ∙ none-held start 0 (c .before .args .p .now),
+  ap (λ (s : Sets). s .sizes) (c .before .pre .1) ∙ none-held extent 0 (c .before .args .p .now),
+  ap (λ (s : Sets). s .counts) (c .before .pre .1) ∙ none-held countOf 0 (c .before .args .p .now),
+  ap (λ (s : Sets). s .«record_sizes») (c .before .pre .1) ∙ none-held recordSizeOf (pos 0) (c .before .args .p .now),
+  ap (λ (s : Sets). s .roles) (c .before .pre .1) ∙ none-held roleOf 0 (c .before .args .p .now),
 )
 
 mul-start : tie.Need-mul-start Inv-loop μ-loop
@@ -80,7 +81,7 @@ returns : tie.Need-returns Inv-loop μ-loop
 returns c =
     let refused-nine =
     left-refused (rule9At (c .before .before .before .before .before .before .before .args .p .now)) (c .before .before .before .before .before .before .before .args .entries) (c .before .before .before .before .before .loop .i) (c .before .before .before .before .before .loop .inv .1) (omega arith)
-    (nine-refused (c .before .before .before .before .before .before .before .args .p .now) (c .before .before .before .before .before .before .before .args .dsds) (c .before .before .before .before .before .before .before .args .entries) (c .before .before .before .before .before .loop .i) (c .before .before .before .before .before .before .before .pre) (c .before .before .before .at .result) (c .before .before .before .at .ensures) (c .before .before .over .result) (c .before .before .over .ensures) (c .before .if1 .taken)) in
+    (nine-refused (c .before .before .before .before .before .before .before .args .p .now) (c .before .before .before .before .before .before .before .args .dsds) (c .before .before .before .before .before .before .before .args .entries) (c .before .before .before .before .before .loop .i) (c .before .before .before .before .before .before .before .pre .0) (c .before .before .before .at .result) (c .before .before .before .at .ensures) (c .before .before .over .result) (c .before .before .over .ensures) (c .before .if1 .taken)) in
     record {
       nine = c .over-reading .ensures .0 ∙ sym refused-nine;
       within = omega (arith, c .over-reading .ensures .1);
@@ -89,41 +90,41 @@ returns c =
       read = λ a. absurd (accepted≢refused (sym a ∙ refused-nine));
     }
 
-array-write-types : tie.Need-array-write-types Inv-loop μ-loop
-array-write-types c = omega arith
+element-write-types : tie.Need-element-write-types Inv-loop μ-loop
+element-write-types c = omega arith
 
 mul-offsets : tie.Need-mul-offsets Inv-loop μ-loop
 mul-offsets c = omega arith
 
-array-write-offsets : tie.Need-array-write-offsets Inv-loop μ-loop
-array-write-offsets c = omega arith
+element-write-offsets : tie.Need-element-write-offsets Inv-loop μ-loop
+element-write-offsets c = omega arith
 
 mul-sizes : tie.Need-mul-sizes Inv-loop μ-loop
 mul-sizes c = omega arith
 
-array-write-sizes : tie.Need-array-write-sizes Inv-loop μ-loop
-array-write-sizes c = omega arith
+element-write-sizes : tie.Need-element-write-sizes Inv-loop μ-loop
+element-write-sizes c = omega arith
 
 mul-counts : tie.Need-mul-counts Inv-loop μ-loop
 mul-counts c = omega arith
 
-array-write-counts : tie.Need-array-write-counts Inv-loop μ-loop
-array-write-counts c = omega arith
+element-write-counts : tie.Need-element-write-counts Inv-loop μ-loop
+element-write-counts c = omega arith
 
 whole-requires : tie.Need-whole-requires Inv-loop μ-loop
 whole-requires c κs = c .before .before .at .ensures .small
 
-mul-record-sizes : tie.Need-mul-record-sizes Inv-loop μ-loop
-mul-record-sizes c = omega arith
+mul-t17 : tie.Need-mul-t17 Inv-loop μ-loop
+mul-t17 c = omega arith
 
-array-set-from-record-sizes : tie.Need-array-set-from-record-sizes Inv-loop μ-loop
-array-set-from-record-sizes c = omega arith
+element-set-from-record-sizes : tie.Need-element-set-from-record-sizes Inv-loop μ-loop
+element-set-from-record-sizes c = omega arith
 
 role-requires : tie.Need-role-requires Inv-loop μ-loop
 role-requires c κs = search needs
 
-array-write-roles : tie.Need-array-write-roles Inv-loop μ-loop
-array-write-roles c = omega arith
+element-write-roles : tie.Need-element-write-roles Inv-loop μ-loop
+element-write-roles c = omega arith
 
 fitting-with-requires : tie.Need-fitting-with-requires Inv-loop μ-loop
 fitting-with-requires c κs = omega arith
@@ -139,17 +140,17 @@ loop-less c = omega arith
 
 -- what a turn has of its entry; and the entries in a row that fit, and those counted, after it
 turn-here : (c : tie.After-counted-with Inv-loop μ-loop) → Turn (entryAt (c .before .before .before .before .before .before .before .before .before .before .args .p .now) (c .before .before .before .before .before .before .before .before .loop .i)) (c .before .before .before .before .before .before .at .result)
-turn-here c = turn (c .before .before .before .before .before .before .before .before .before .before .args .p .now) (c .before .before .before .before .before .before .before .before .before .before .args .dsds) (c .before .before .before .before .before .before .before .before .before .before .args .entries) (c .before .before .before .before .before .before .before .before .loop .i) (c .before .before .before .before .before .before .before .before .before .before .pre) (c .before .before .before .before .before .before .at .result) (c .before .before .before .before .before .before .at .ensures) (c .before .before .before .before .before .over .result) (c .before .before .before .before .before .over .ensures) (c .before .before .before .before .if1 .left)
+turn-here c = turn (c .before .before .before .before .before .before .before .before .before .before .args .p .now) (c .before .before .before .before .before .before .before .before .before .before .args .dsds) (c .before .before .before .before .before .before .before .before .before .before .args .entries) (c .before .before .before .before .before .before .before .before .loop .i) (c .before .before .before .before .before .before .before .before .before .before .pre .0) (c .before .before .before .before .before .before .at .result) (c .before .before .before .before .before .before .at .ensures) (c .before .before .before .before .before .over .result) (c .before .before .before .before .before .over .ensures) (c .before .before .before .before .if1 .left)
 
 fits-next : (c : tie.After-counted-with Inv-loop μ-loop) → (c .before .fitting-with .result ≤ c .before .before .before .before .before .before .before .before .loop .i + 1) × (first (rule10At (c .before .before .before .before .before .before .before .before .before .before .args .p .now)) 0 (c .before .before .before .before .before .before .before .before .loop .i + 1) ≡ need (eqb (c .before .fitting-with .result) (c .before .before .before .before .before .before .before .before .loop .i + 1)) 10 (c .before .before .before .before .before .before .before .before .before .before .args .dsds + 280 * c .before .fitting-with .result) (c .before .fitting-with .result))
 fits-next c =
     ten-next (rule10At (c .before .before .before .before .before .before .before .before .before .before .args .p .now)) (c .before .before .before .before .before .before .before .before .before .before .args .dsds) (c .before .before .before .before .before .before .before .before .loop .fitting) (c .before .before .before .before .before .before .before .before .loop .i) (numbersFit (viewOf (c .before .before .before .before .before .before .at .result))) (c .before .before .before .before .before .before .before .before .loop .inv .2) (c .before .before .before .before .before .before .before .before .loop .inv .3)
-    (ten (c .before .before .before .before .before .before .before .before .before .before .args .p .now) (c .before .before .before .before .before .before .before .before .before .before .args .dsds) (c .before .before .before .before .before .before .before .before .before .before .args .entries) (c .before .before .before .before .before .before .before .before .loop .i) (c .before .before .before .before .before .before .before .before .before .before .pre) ∙ rw (← turn-here c .fits))
+    (ten (c .before .before .before .before .before .before .before .before .before .before .args .p .now) (c .before .before .before .before .before .before .before .before .before .before .args .dsds) (c .before .before .before .before .before .before .before .before .before .before .args .entries) (c .before .before .before .before .before .before .before .before .loop .i) (c .before .before .before .before .before .before .before .before .before .before .pre .0) ∙ rw (← turn-here c .fits))
     (c .before .fitting-with .ensures)
 
 counts-next : (c : tie.After-counted-with Inv-loop μ-loop) → (c .counted-with .result ≡ count (isDataAt (directory (c .before .before .before .before .before .before .before .before .before .before .args .p .now))) 0 (c .before .before .before .before .before .before .before .before .loop .i + 1)) × (c .counted-with .result ≤ c .before .before .before .before .before .before .before .before .loop .i + 1)
 counts-next c =
-    eleven-next (c .before .before .before .before .before .before .before .before .before .before .args .p .now) (c .before .before .before .before .before .before .before .before .loop .counted) (c .before .before .before .before .before .before .before .before .loop .i) (isData (viewOf (c .before .before .before .before .before .before .at .result))) (omega (arith, c .before .before .before .before .before .before .before .before .before .before .pre .all)) (c .before .before .before .before .before .before .before .before .loop .inv .5) (c .before .before .before .before .before .before .before .before .loop .inv .4) (turn-here c .counted)
+    eleven-next (c .before .before .before .before .before .before .before .before .before .before .args .p .now) (c .before .before .before .before .before .before .before .before .loop .counted) (c .before .before .before .before .before .before .before .before .loop .i) (isData (viewOf (c .before .before .before .before .before .before .at .result))) (omega (arith, c .before .before .before .before .before .before .before .before .before .before .pre .0 .all)) (c .before .before .before .before .before .before .before .before .loop .inv .5) (c .before .before .before .before .before .before .before .before .loop .inv .4) (turn-here c .counted)
     (c .counted-with .ensures)
 
 loop-again : tie.Need-loop-again Inv-loop μ-loop
@@ -159,7 +160,7 @@ loop-again c =
     let k = counts-next c in (
       omega arith,
       left-next (rule9At (c .before .before .before .before .before .before .before .before .before .before .args .p .now)) (c .before .before .before .before .before .before .before .before .before .before .args .entries) (c .before .before .before .before .before .before .before .before .loop .i) (c .before .before .before .before .before .before .before .before .loop .inv .1) (omega arith)
-          (nine-accepted (c .before .before .before .before .before .before .before .before .before .before .args .p .now) (c .before .before .before .before .before .before .before .before .before .before .args .dsds) (c .before .before .before .before .before .before .before .before .before .before .args .entries) (c .before .before .before .before .before .before .before .before .loop .i) (c .before .before .before .before .before .before .before .before .before .before .pre) (c .before .before .before .before .before .before .at .result) (c .before .before .before .before .before .before .at .ensures) (c .before .before .before .before .before .over .result) (c .before .before .before .before .before .over .ensures) (c .before .before .before .before .if1 .left)),
+          (nine-accepted (c .before .before .before .before .before .before .before .before .before .before .args .p .now) (c .before .before .before .before .before .before .before .before .before .before .args .dsds) (c .before .before .before .before .before .before .before .before .before .before .args .entries) (c .before .before .before .before .before .before .before .before .loop .i) (c .before .before .before .before .before .before .before .before .before .before .pre .0) (c .before .before .before .before .before .before .at .result) (c .before .before .before .before .before .before .at .ensures) (c .before .before .before .before .before .over .result) (c .before .before .before .before .before .over .ensures) (c .before .before .before .before .if1 .left)),
       f .0,
       f .1,
       k .1,
@@ -172,19 +173,16 @@ loop-again c =
       one-more roleOf 0 (c .before .before .before .before .before .before .before .before .before .before .args .p .now) (c .before .before .before .before .before .before .before .before .loop .roles) (c .before .before .before .before .before .before .before .before .loop .i) _ (omega arith) (c .before .before .before .before .before .before .before .before .loop .inv .11) (c .before .before .role .ensures ∙ t .roles),
     )
 
-of-requires : tie.Need-of-requires Inv-loop μ-loop
-of-requires c κs = search needs
-
 returns-2 : tie.Need-returns-2 Inv-loop μ-loop
 unfolding verdictIs
 returns-2 c =
-    let e : c .before .before .loop .i ≡ c .before .before .before .before .args .entries = omega arith in
+    let e : c .before .loop .i ≡ c .before .before .before .args .entries = omega arith in
     record {
-      nine = sym (left-end (rule9At (c .before .before .before .before .args .p .now)) (c .before .before .before .before .args .entries) (c .before .before .loop .i) (c .before .before .loop .inv .1) (omega arith));
+      nine = sym (left-end (rule9At (c .before .before .before .args .p .now)) (c .before .before .before .args .entries) (c .before .loop .i) (c .before .loop .inv .1) (omega arith));
       within = omega arith;
-      ten = λ a. rw (← e) (c .before .before .loop .inv .3);
-      eleven = λ a. rw (← e) (c .before .before .loop .inv .5);
-      read = λ a. c .of .ensures ∙ sets-read (c .before .before .before .before .args .p .now) (c .before .before .before .before .args .entries) (c .before .before .loop .i) (c .before .before .before .before .pre .all) e (c .before .before .loop .inv .6) (c .before .before .loop .inv .7) (c .before .before .loop .inv .8) (c .before .before .loop .inv .9) (c .before .before .loop .inv .10) (c .before .before .loop .inv .11);
+      ten = λ a. rw (← e) (c .before .loop .inv .3);
+      eleven = λ a. rw (← e) (c .before .loop .inv .5);
+      read = λ a. sets-read (c .before .before .before .args .p .now) (c .before .before .before .args .entries) (c .before .loop .i) (c .before .before .before .pre .0 .all) e (c .before .loop .inv .6) (c .before .loop .inv .7) (c .before .loop .inv .8) (c .before .loop .inv .9) (c .before .loop .inv .10) (c .before .loop .inv .11);
     }
 
 pub read-sets-spec : {M : Type 1} → statement M
@@ -201,22 +199,21 @@ read-sets-spec =
     add-over-reading
     over-reading-requires
     returns
-    array-write-types
+    element-write-types
     mul-offsets
-    array-write-offsets
+    element-write-offsets
     mul-sizes
-    array-write-sizes
+    element-write-sizes
     mul-counts
-    array-write-counts
+    element-write-counts
     whole-requires
-    mul-record-sizes
-    array-set-from-record-sizes
+    mul-t17
+    element-set-from-record-sizes
     role-requires
-    array-write-roles
+    element-write-roles
     fitting-with-requires
     counted-with-requires
     add-i
     loop-less
     loop-again
-    of-requires
     returns-2)
