@@ -7,7 +7,7 @@ ghost use lib.IntN.{pos};
 ghost use lib.ListN.{length};
 ghost use lib.Seq.{paste};
 ghost use mathlib.Core.List.{List, map};
-ghost use Rattle.layout.specs.Answer.{refused, _orElse_, need};
+ghost use Rattle.layout.specs.Answer.{accepted, refused, _orElse_, need};
 ghost use Rattle.layout.specs.Answers.{verdictIs, padded, nameOf, filenameOf, directoryOf};
 ghost use Rattle.layout.specs.Bytes.{part};
 ghost use Rattle.layout.specs.Entries.{Entry as LayoutEntry, eqZ, numDataSets, directory, called, isData, allZero, inRange, isFixed, isVariable, setFits, numbersFit, atLeast};
@@ -15,7 +15,7 @@ ghost use Rattle.layout.specs.Rules.{rule7, rule8At, rule8, rule12At, rule13At,
 ghost use Rattle.layout.specs.Search.{first, join};
 ghost use Rattle.layout.specs.Text.{whole};
 ghost use Rattle.sets.specs.Sets.{Held};
-ghost use Rattle.directory.specs.Checks.{together, setsOf, noSets, Headers, Dsds, ReadAll, Checked};
+ghost use Rattle.directory.specs.Checks.{together, setsOf, noSets, Headers, Dsds, ReadAll, Listed, Checked};
 ghost use Rattle.directory.specs.Held.{nameRole, numberFrom, viewOf, Read, overPlace, roleOf};
 
 // The 28 bytes from `start` on are this name, padded with blanks.
@@ -471,8 +471,8 @@ fn check_places<'a>(
     layout::Verdict::Accepted
 }
 
-// Rules 7 to 14, of a product of `length` bytes whose headers are at hand. Where they accept, the arrays of zeros that are lent have the numbers.
-pub fn check_directory(
+// Rules 9 to 14, of a product that meets rules 7 and 8, its numbers read into arrays of zeros.
+fn check_sets(
     p: &[u8],
     length: u64,
     headers_end: usize,
@@ -484,14 +484,10 @@ pub fn check_directory(
     record_sizes: &mut [i64; 128],
     roles: &mut [u8; 128],
 ) -> layout::Verdict
-    requires { ⌜ Headers (now p) «headers_end» entries × (together 0 (now types) (now offsets) (now sizes) (now counts) (now «record_sizes») (now roles) ≡ noSets) ⌝ }
-    ensures { λ r. ⌜ Checked (now (p .entry)) length r (together entries (now (types .exit)) (now (offsets .exit)) (now (sizes .exit)) (now (counts .exit)) (now («record_sizes» .exit)) (now (roles .exit))) ⌝ }
+    requires { ⌜ Headers (now p) «headers_end» entries × ((rule7 (now p) length orElse rule8 (now p) length) ≡ accepted) × (together 0 (now types) (now offsets) (now sizes) (now counts) (now «record_sizes») (now roles) ≡ noSets) ⌝ }
+    ensures { λ r. ⌜ Listed (now (p .entry)) length r (together entries (now (types .exit)) (now (offsets .exit)) (now (sizes .exit)) (now (counts .exit)) (now («record_sizes» .exit)) (now (roles .exit))) ⌝ }
 {
     let dsds = headers_end - Entry::SIZE * entries;
-    let text = check_text(p, dsds, entries);
-    if let layout::Verdict::Refused(refusal) = text {
-        return layout::Verdict::Refused(refusal);
-    }
     let reading = read_sets(
         p,
         dsds,
@@ -512,6 +508,64 @@ pub fn check_directory(
         return layout::Verdict::Refused(refusal);
     }
     check_places(offsets, sizes, entries, headers_end as u64, length)
+}
+
+fn clear_sets(
+    types: &mut [u8; 128],
+    offsets: &mut [u64; 128],
+    sizes: &mut [u64; 128],
+    counts: &mut [u64; 128],
+    record_sizes: &mut [i64; 128],
+    roles: &mut [u8; 128],
+)
+    ensures { λ r. ⌜ together 0 (now (types .exit)) (now (offsets .exit)) (now (sizes .exit)) (now (counts .exit)) (now («record_sizes» .exit)) (now (roles .exit)) ≡ noSets ⌝ }
+{
+    *types = [0; 128];
+    *offsets = [0; 128];
+    *sizes = [0; 128];
+    *counts = [0; 128];
+    *record_sizes = [0; 128];
+    *roles = [0; 128];
+}
+
+// Rules 7 to 14, of a product of `length` bytes whose headers are at hand. The arrays of zeros that are lent get its numbers; beside a refusal they
+// are all zero.
+pub fn check_directory(
+    p: &[u8],
+    length: u64,
+    headers_end: usize,
+    entries: usize,
+    types: &mut [u8; 128],
+    offsets: &mut [u64; 128],
+    sizes: &mut [u64; 128],
+    counts: &mut [u64; 128],
+    record_sizes: &mut [i64; 128],
+    roles: &mut [u8; 128],
+) -> layout::Verdict
+    requires { ⌜ Headers (now p) «headers_end» entries × (together 0 (now types) (now offsets) (now sizes) (now counts) (now «record_sizes») (now roles) ≡ noSets) ⌝ }
+    ensures { λ r. ⌜ Checked (now (p .entry)) length r (together entries (now (types .exit)) (now (offsets .exit)) (now (sizes .exit)) (now (counts .exit)) (now («record_sizes» .exit)) (now (roles .exit))) ⌝ }
+{
+    let text = check_text(p, headers_end - Entry::SIZE * entries, entries);
+    if let layout::Verdict::Refused(refusal) = text {
+        return layout::Verdict::Refused(refusal);
+    }
+    let listed = check_sets(
+        p,
+        length,
+        headers_end,
+        entries,
+        types,
+        offsets,
+        sizes,
+        counts,
+        record_sizes,
+        roles,
+    );
+    if let layout::Verdict::Refused(refusal) = listed {
+        clear_sets(types, offsets, sizes, counts, record_sizes, roles);
+        return layout::Verdict::Refused(refusal);
+    }
+    layout::Verdict::Accepted
 }
 
 // `width` bytes from `from` on go to `to`.

@@ -15,11 +15,11 @@ use Rattle.layout.specs.declared.Refusal.{Refusal}
 use Rattle.layout.specs.declared.Verdict.{Verdict}
 use Rattle.layout.specs.declared.Verdict.the-variants.{Accepted, Refused}
 use Rattle.layout.proofs.Laws.{orElse-assoc, orElse-accepts, orElse-accepted, accepted≢refused}
-use Rattle.header.specs.Checks.{rules1to6, HeaderChecked, HeadersFit}
+use Rattle.header.specs.Checks.{rules1to6, HeaderChecked}
 use Rattle.header.specs.declared.HeaderCheck.{HeaderCheck}
 use Rattle.directory.specs.Checks.{rules7to14, setsOf, Headers, Checked}
 use Rattle.directory.specs.declared.Sets.{Sets}
-use Rattle.opening.specs.Opening.{Laid, closed, Opened}
+use Rattle.opening.specs.Opening.{Laid, Judged, closed, Opened}
 use Rattle.opening.specs.declared.Opening.{Opening}
 
 module _ (b : List ℕ) where
@@ -56,34 +56,35 @@ module _ (b : List ℕ) where
     header-refused r x q h = refuses r x q (sym (in-parts ∙ rw (told (header .verdict) r (rules1to6 b (length b)) h (checked .verdict-is))))
 
     module _ (good : header .verdict ≡ Accepted) where
-      six : rules1to6 b (length b) ≡ accepted
+      pub six : rules1to6 b (length b) ≡ accepted
       six = passed (header .verdict) (rules1to6 b (length b)) good (checked .verdict-is)
 
-      fit : HeadersFit b (length b) header
-      fit = checked .headers six
-
       pub headers : Headers b (header .«headers_end») (header .entries)
-      headers = record { ends = fit .end-is; all = fit .entries-are; most = fit .entries-most; room = fit .dsds-fit; inside = fit .inside }
+      headers =
+          let fit = checked .headers six in
+          record { ends = fit .end-is; all = fit .entries-are; most = fit .entries-most; room = fit .dsds-fit; inside = fit .inside }
 
-      module _ (found : Verdict) (numbers : Sets) (listed : Checked b (length b) found numbers) where
-        pub directory-refused : (r : Refusal) (x : Opening) → x ≡ closed r → found ≡ Refused r → Opened b x
-        directory-refused r x q h = refuses r x q (sym (in-parts ∙ rw (six, told found r (rules7to14 b (length b)) h (listed .verdict))))
+  module _ (good : rules1to6 b (length b) ≡ accepted) (found : Verdict) (numbers : Sets) (checked : Checked b (length b) found numbers) where
+    pub directory-refused : (r : Refusal) → found ≡ Refused r → Judged b (Refused r) numbers
+    unfolding verdictIs
+    directory-refused r h =
+        let q : verdict b ≡ refused (r .number) (r .place) (r .entry) = in-parts ∙ rw (good, told found r (rules7to14 b (length b)) h (checked .listed .verdict)) in
+        record { judged = sym q; held = λ a. absurd (accepted≢refused (sym a ∙ q)) }
 
-        module _ (fine : found ≡ Accepted) where
-          fourteen : rules7to14 b (length b) ≡ accepted
-          fourteen = passed found (rules7to14 b (length b)) fine (listed .verdict)
+    module _ (fine : found ≡ Accepted) where
+      fourteen : rules7to14 b (length b) ≡ accepted
+      fourteen = passed found (rules7to14 b (length b)) fine (checked .listed .verdict)
 
-          pub laid : (sets : Sets) → sets ≡ numbers → Laid b sets
-          laid sets q = record { rules = headers-in-parts ∙ rw (six, fourteen); held = q ∙ listed .read fourteen }
+      pub laid : (sets : Sets) → sets ≡ numbers → Laid b sets
+      laid sets q = record { rules = headers-in-parts ∙ rw (good, fourteen); held = q ∙ checked .listed .read fourteen }
 
-          pub states-refused : (v : Verdict) (r : Refusal) (x : Opening) → x ≡ closed r → v ≡ Refused r → verdictIs v ≡ states → Opened b x
-          states-refused v r x q h j = refuses r x q (sym (in-parts ∙ rw (six, fourteen, told v r states h j)))
+      pub all-judged : (v : Verdict) → verdictIs v ≡ states → Judged b v numbers
+      all-judged v h = record { judged = h ∙ sym (in-parts ∙ rw (good, fourteen)); held = λ a. checked .listed .read fourteen }
 
-          pub opened : (v : Verdict) → v ≡ Accepted → verdictIs v ≡ states → (sets : Sets) → sets ≡ numbers → Opened b (record { verdict = Accepted; «headers_end» = header .«headers_end»; sets = sets })
-          unfolding verdictIs
-          opened v h j sets q =
-              record {
-                judged = sym (in-parts ∙ rw (six, fourteen, passed v states h j));
-                end = λ a. fit .end-is;
-                held = λ a. laid sets q .held;
-              }
+  module _ (v : Verdict) (numbers : Sets) (judged : Judged b v numbers) where
+    pub judged-refused : (r : Refusal) (x : Opening) → x ≡ closed r → v ≡ Refused r → Opened b x
+    judged-refused r x q h = refuses r x q (sym (told v r (verdict b) h (judged .judged)))
+
+    pub opened : v ≡ Accepted → (sets : Sets) → sets ≡ numbers → (end : ℕ) → end ≡ headersEnd b → Opened b (record { verdict = Accepted; «headers_end» = end; sets = sets })
+    unfolding verdictIs
+    opened h sets q end e = record { judged = sym (passed v (verdict b) h (judged .judged)); end = λ a. e; held = λ a. q ∙ judged .held a }

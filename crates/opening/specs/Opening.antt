@@ -11,6 +11,7 @@ use Rattle.layout.specs.States.{statesEntry, statesOf, tallyOf}
 use Rattle.layout.specs.Rules.{headerRules, statesFit, rule16, verdict}
 use Rattle.layout.specs.Answers.{verdictIs}
 use Rattle.layout.specs.declared.Refusal.{Refusal}
+use Rattle.layout.specs.declared.Verdict.{Verdict}
 use Rattle.layout.specs.declared.Verdict.the-variants as verdict-cases
 use Rattle.directory.specs.Checks.{setsOf, noSets}
 use Rattle.directory.specs.declared.Sets.{Sets}
@@ -26,6 +27,11 @@ unfoldable pub describedRules : List ℕ → Answer
 describedRules b =
     statesFit (directory b) (tallyOf (statesOf b (directory b))) (statesEntry (directory b))
     orElse rule16 (directory b) (tallyOf (statesOf b (directory b)))
+
+-- the verdict of all rules, with the numbers read; where a rule refuses, nothing of the numbers
+pub record Judged (b : List ℕ) (r : Verdict) (sets : Sets) : Type 0 where
+  pub judged : verdictIs r ≡ verdict b
+  pub held : verdict b ≡ accepted → sets ≡ setsOf (directory b)
 
 -- ---- what opening a product answers
 

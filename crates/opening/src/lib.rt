@@ -3,12 +3,15 @@ ghost use mathlib.Core.Path.{_≡_};
 ghost use Prim.Native.Nat.{_+_, _*_, _-_, _≤_, _<_};
 ghost use lib.ListN.{length};
 ghost use Rattle.layout.specs.Search.{find};
+ghost use Rattle.layout.specs.Answer.{accepted};
 ghost use Rattle.layout.specs.Answers.{verdictIs};
 ghost use Rattle.layout.specs.Entries.{directory};
 ghost use Rattle.layout.specs.States.{statesEntry, statesOf, tallyOf};
 ghost use Rattle.layout.specs.Rules.{stateRules};
+ghost use Rattle.header.specs.Checks.{rules1to6};
+ghost use Rattle.directory.specs.Checks.{together, noSets, Headers};
 ghost use Rattle.opening.specs.Roles.{roleWithin, unfilled, unfilledAt, rule16By};
-ghost use Rattle.opening.specs.Opening.{Laid, describedRules, closed, Opened};
+ghost use Rattle.opening.specs.Opening.{Laid, describedRules, Judged, closed, Opened};
 use directory::Sets;
 use layout::Refusal;
 use layout::Verdict;
@@ -145,28 +148,70 @@ fn refused_opening(refusal: Refusal) -> Opening
     }
 }
 
-// All sixteen rules, in their order.
+// Rules 7 to 16, of a product that meets rules 1 to 6, its numbers read into arrays of zeros.
+fn judge_headed(
+    p: &[u8],
+    headers_end: usize,
+    entries: usize,
+    types: &mut [u8; 128],
+    offsets: &mut [u64; 128],
+    sizes: &mut [u64; 128],
+    counts: &mut [u64; 128],
+    record_sizes: &mut [i64; 128],
+    roles: &mut [u8; 128],
+) -> Verdict
+    requires { ⌜ (rules1to6 (now p) (length (now p)) ≡ accepted) × Headers (now p) «headers_end» entries × (together 0 (now types) (now offsets) (now sizes) (now counts) (now «record_sizes») (now roles) ≡ noSets) ⌝ }
+    ensures { λ r. ⌜ Judged (now (p .entry)) r (together entries (now (types .exit)) (now (offsets .exit)) (now (sizes .exit)) (now (counts .exit)) (now («record_sizes» .exit)) (now (roles .exit))) ⌝ }
+{
+    let checked = directory::check_directory(
+        p,
+        p.len() as u64,
+        headers_end,
+        entries,
+        types,
+        offsets,
+        sizes,
+        counts,
+        record_sizes,
+        roles,
+    );
+    if let Verdict::Refused(refusal) = checked {
+        return Verdict::Refused(refusal);
+    }
+    judge_states(
+        p,
+        Sets::of(
+            entries,
+            *types,
+            *offsets,
+            *sizes,
+            *counts,
+            *record_sizes,
+            *roles,
+        ),
+    )
+}
+
+// All sixteen rules, in their order. The arrays are made here and lent: the numbers are copied once, into the answer.
 pub fn open_product(p: &[u8]) -> Opening
     ensures { λ r. ⌜ Opened (now (p .entry)) r ⌝ }
 {
-    let length = p.len() as u64;
-    let header = header::check_header(p, length);
+    let header = header::check_header(p, p.len() as u64);
     let first = header.verdict;
     if let Verdict::Refused(refusal) = first {
         return refused_opening(refusal);
     }
-    // Made here and lent: the numbers are copied once, into the answer.
+    let headers_end = header.headers_end;
+    let entries = header.entries;
     let mut types = [0u8; 128];
     let mut offsets = [0u64; 128];
     let mut sizes = [0u64; 128];
     let mut counts = [0u64; 128];
     let mut record_sizes = [0i64; 128];
     let mut roles = [0u8; 128];
-    let entries = header.entries;
-    let second = directory::check_directory(
+    let judged = judge_headed(
         p,
-        length,
-        header.headers_end,
+        headers_end,
         entries,
         &mut types,
         &mut offsets,
@@ -175,19 +220,12 @@ pub fn open_product(p: &[u8]) -> Opening
         &mut record_sizes,
         &mut roles,
     );
-    if let Verdict::Refused(refusal) = second {
-        return refused_opening(refusal);
-    }
-    let third = judge_states(
-        p,
-        Sets::of(entries, types, offsets, sizes, counts, record_sizes, roles),
-    );
-    if let Verdict::Refused(refusal) = third {
+    if let Verdict::Refused(refusal) = judged {
         return refused_opening(refusal);
     }
     Opening {
         verdict: Verdict::Accepted,
-        headers_end: header.headers_end,
+        headers_end,
         sets: Sets::of(entries, types, offsets, sizes, counts, record_sizes, roles),
     }
 }

@@ -1,46 +1,18 @@
--- `directory::check_directory` meets its contract: the first check that refuses decides, and where all accept the numbers read are the directory's.
+-- `directory::check_directory` meets its contract: beside a refusal the arrays are zero, as they were lent or cleared.
 -- Assumes nothing.
-use Prim.Native.Nat.{_*_, _-_}
 use mathlib.Core.Path.{_≡_, sym, ap, _∙_, refl}
 use native.Mathlib.Omega.{arith}
-use Rattle.layout.specs.Answer.{accepted, _orElse_}
 use Rattle.layout.specs.Answers.{verdictIs}
-use Rattle.layout.specs.Rules.{rule7, rule8, rule9, rule10, rule11, rule12, rule13, rule14}
-use Rattle.directory.proofs.Rules.{dsds-of, stopped, stop-text, stop-over, stop-numbers, passed, by-over, by-numbers, by-sets, by-held}
+use Rattle.directory.proofs.Rules.{dsds-of, stop-text, refused-none, accepted-all}
 use borrow.Author.Needs.{needs}
 use Rattle.directory.proofs.check_directory.Statement.{statement}
 use Rattle.directory.proofs.check_directory.Tie as tie
 
--- ---- what each check says of its rules, and that they accept behind it
+mul-check-text : tie.Need-mul-check-text
+mul-check-text c = omega arith
 
-text-passes : (c : tie.After-enum-told) → (rule7 (c .before .before .before .before .args .p .now) (c .before .before .before .before .args .length) orElse rule8 (c .before .before .before .before .args .p .now) (c .before .before .before .before .args .length)) ≡ accepted
-unfolding verdictIs
-text-passes c = sym (c .before .before .check-text .ensures (c .before .before .before .before .args .length)) ∙ ap verdictIs (c .enum-told .given .1)
-
-over-is : (c : tie.After-read-sets) → verdictIs (c .read-sets .result .over) ≡ rule9 (c .before .before .before .before .before .before .before .before .before .before .before .args .p .now) (c .before .before .before .before .before .before .before .before .before .before .before .args .length)
-over-is c = by-over (c .before .before .before .before .before .before .before .before .before .before .before .args .p .now) (c .before .before .before .before .before .before .before .before .before .before .before .args .length) (c .before .before .before .before .before .before .before .before .before .before .before .args .headers-end - 280 * c .before .before .before .before .before .before .before .before .before .before .before .args .entries) (c .before .before .before .before .before .before .before .before .before .before .before .args .entries) (dsds-of (c .before .before .before .before .before .before .before .before .before .before .before .pre .0)) (c .read-sets .result) _ (c .read-sets .ensures)
-
-over-passes : (c : tie.After-enum-told2) → rule9 (c .before .before .before .before .before .before .before .before .before .before .before .before .before .args .p .now) (c .before .before .before .before .before .before .before .before .before .before .before .before .before .args .length) ≡ accepted
-unfolding verdictIs
-over-passes c = sym (over-is (c .before .before)) ∙ ap verdictIs (c .enum-told2 .given .1)
-
-numbers-is : (c : tie.After-check-numbers) → verdictIs (c .check-numbers .result) ≡ (rule10 (c .before .before .before .before .before .before .before .before .before .before .before .before .before .before .args .p .now) (c .before .before .before .before .before .before .before .before .before .before .before .before .before .before .args .length) orElse rule11 (c .before .before .before .before .before .before .before .before .before .before .before .before .before .before .args .p .now) (c .before .before .before .before .before .before .before .before .before .before .before .before .before .before .args .length))
-numbers-is c = c .check-numbers .ensures ∙ by-numbers (c .before .before .before .before .before .before .before .before .before .before .before .before .before .before .args .p .now) (c .before .before .before .before .before .before .before .before .before .before .before .before .before .before .args .length) (c .before .before .before .before .before .before .before .before .before .before .before .before .before .before .args .headers-end - 280 * c .before .before .before .before .before .before .before .before .before .before .before .before .before .before .args .entries) (c .before .before .before .before .before .before .before .before .before .before .before .before .before .before .args .entries) (dsds-of (c .before .before .before .before .before .before .before .before .before .before .before .before .before .before .pre .0)) (c .before .before .before .read-sets .result) _ (c .before .before .before .read-sets .ensures) (over-passes (c .before))
-
-numbers-passes : (c : tie.After-enum-told3) → (rule10 (c .before .before .before .before .before .before .before .before .before .before .before .before .before .before .before .before .args .p .now) (c .before .before .before .before .before .before .before .before .before .before .before .before .before .before .before .before .args .length) orElse rule11 (c .before .before .before .before .before .before .before .before .before .before .before .before .before .before .before .before .args .p .now) (c .before .before .before .before .before .before .before .before .before .before .before .before .before .before .before .before .args .length)) ≡ accepted
-unfolding verdictIs
-numbers-passes c = sym (numbers-is (c .before .before)) ∙ ap verdictIs (c .enum-told3 .given .1)
-
-places-is : (c : tie.After-check-places) → verdictIs (c .check-places .result) ≡ (rule12 (c .before .before .before .before .before .before .before .before .before .before .before .before .before .before .before .before .before .before .before .args .p .now) (c .before .before .before .before .before .before .before .before .before .before .before .before .before .before .before .before .before .before .before .args .length) orElse (rule13 (c .before .before .before .before .before .before .before .before .before .before .before .before .before .before .before .before .before .before .before .args .p .now) (c .before .before .before .before .before .before .before .before .before .before .before .before .before .before .before .before .before .before .before .args .length) orElse rule14 (c .before .before .before .before .before .before .before .before .before .before .before .before .before .before .before .before .before .before .before .args .p .now) (c .before .before .before .before .before .before .before .before .before .before .before .before .before .before .before .before .before .before .before .args .length)))
-places-is c =
-    by-held (c .before .before .before .before .before .before .before .before .before .before .before .before .before .before .before .before .before .before .before .args .p .now) (c .before .before .before .before .before .before .before .before .before .before .before .before .before .before .before .before .before .before .before .args .length) (c .before .before .before .before .before .before .before .before .before .before .before .before .before .before .before .before .before .before .before .args .headers-end) (c .before .before .before .before .before .before .before .before .before .before .before .before .before .before .before .before .before .before .before .args .entries) (c .before .before .before .before .before .before .before .before .before .before .before .before .before .before .before .before .before .before .before .pre .0) (c .before .before .before .before .before .before .before .before .read-sets .result) _ (c .before .before .before .before .before .before .before .before .read-sets .ensures) (text-passes (c .before .before .before .before .before .before .before .before .before .before .before .before .before .before .before)) (over-passes (c .before .before .before .before .before .before)) (numbers-passes (c .before .before .before))
-    (c .check-places .ensures)
-
-mul-dsds : tie.Need-mul-dsds
-mul-dsds c = omega arith
-
-sub-dsds : tie.Need-sub-dsds
-sub-dsds c = omega arith
+sub-check-text : tie.Need-sub-check-text
+sub-check-text c = omega arith
 
 check-text-requires : tie.Need-check-text-requires
 check-text-requires c κs = dsds-of (c .before .pre .0)
@@ -50,64 +22,45 @@ enum-known-text c = search needs
 
 returns : tie.Need-returns
 unfolding verdictIs
-returns c = stopped (c .before .before .before .before .before .args .p .now) (c .before .before .before .before .before .args .length) _ _ (stop-text (c .before .before .before .before .before .args .p .now) (c .before .before .before .before .before .args .length) (sym (ap verdictIs (c .before .text .given .1)) ∙ c .before .before .before .check-text .ensures (c .before .before .before .before .before .args .length))) refl
+returns c = refused-none (c .before .before .before .before .before .args .p .now) (c .before .before .before .before .before .args .length) _ _ (stop-text (c .before .before .before .before .before .args .p .now) (c .before .before .before .before .before .args .length) (sym (ap verdictIs (c .before .text .given .1)) ∙ c .before .before .before .check-text .ensures (c .before .before .before .before .before .args .length))) refl (c .before .before .before .before .before .pre .1)
 
 enum-told : tie.Need-enum-told
 enum-told c = search needs
 
-read-sets-requires : tie.Need-read-sets-requires
-read-sets-requires c κs = (dsds-of (c .before .before .before .before .before .before .before .before .before .before .pre .0), c .before .before .before .before .before .before .before .before .before .before .pre .1)
+check-sets-requires : tie.Need-check-sets-requires
+unfolding verdictIs
+check-sets-requires c κs = (c .before .before .before .before .before .before .before .before .before .before .pre .0, sym (c .before .before .before .before .before .before .before .before .check-text .ensures (c .before .before .before .before .before .before .before .before .before .before .args .length)) ∙ ap verdictIs (c .before .before .before .before .before .before .enum-told .given .1), c .before .before .before .before .before .before .before .before .before .before .pre .1)
 
-enum-known-over : tie.Need-enum-known-over
-enum-known-over c = search needs
+enum-known-listed : tie.Need-enum-known-listed
+enum-known-listed c = search needs
+
+clear-sets-requires : tie.Need-clear-sets-requires
+clear-sets-requires c κs = search needs
 
 returns-2 : tie.Need-returns-2
 unfolding verdictIs
-returns-2 c =
-    stopped (c .before .before .before .before .before .before .before .before .before .before .before .before .before .before .args .p .now) (c .before .before .before .before .before .before .before .before .before .before .before .before .before .before .args .length) _ _ (stop-over (c .before .before .before .before .before .before .before .before .before .before .before .before .before .before .args .p .now) (c .before .before .before .before .before .before .before .before .before .before .before .before .before .before .args .length) (text-passes (c .before .before .before .before .before .before .before .before .before .before)) (sym (ap verdictIs (c .before .over .given .1)) ∙ over-is (c .before .before .before))) refl
+returns-2 c = refused-none (c .before .before .before .before .before .before .before .before .before .before .before .before .before .before .before .before .before .before .before .before .before .args .p .now) (c .before .before .before .before .before .before .before .before .before .before .before .before .before .before .before .before .before .before .before .before .before .args .length) _ _ (sym (c .before .before .before .before .before .before .before .before .before .before .check-sets .ensures .verdict) ∙ ap verdictIs (c .before .before .before .before .before .before .before .before .listed .given .1)) refl (c .clear-sets .ensures)
 
 enum-told-2 : tie.Need-enum-told-2
 enum-told-2 c = search needs
 
-check-numbers-requires : tie.Need-check-numbers-requires
-check-numbers-requires c κs = (dsds-of (c .before .before .before .before .before .before .before .before .before .before .before .before .before .pre .0), c .before .before .read-sets .ensures .within)
-
-enum-known-numbers : tie.Need-enum-known-numbers
-enum-known-numbers c = search needs
-
 returns-3 : tie.Need-returns-3
 unfolding verdictIs
-returns-3 c =
-    stopped (c .before .before .before .before .before .before .before .before .before .before .before .before .before .before .before .before .before .args .p .now) (c .before .before .before .before .before .before .before .before .before .before .before .before .before .before .before .before .before .args .length) _ _ (stop-numbers (c .before .before .before .before .before .before .before .before .before .before .before .before .before .before .before .before .before .args .p .now) (c .before .before .before .before .before .before .before .before .before .before .before .before .before .before .before .before .before .args .length) (text-passes (c .before .before .before .before .before .before .before .before .before .before .before .before .before)) (over-passes (c .before .before .before .before)) (sym (ap verdictIs (c .before .numbers .given .1)) ∙ numbers-is (c .before .before .before))) refl
-
-enum-told-3 : tie.Need-enum-told-3
-enum-told-3 c = search needs
-
-check-places-requires : tie.Need-check-places-requires
-check-places-requires c κs = search needs
-
-returns-4 : tie.Need-returns-4
-returns-4 c =
-    passed (c .before .before .before .before .before .before .before .before .before .before .before .before .before .before .before .before .before .before .before .args .p .now) (c .before .before .before .before .before .before .before .before .before .before .before .before .before .before .before .before .before .before .before .args .length) _ _ (text-passes (c .before .before .before .before .before .before .before .before .before .before .before .before .before .before .before)) (over-passes (c .before .before .before .before .before .before)) (numbers-passes (c .before .before .before)) (places-is c)
-    (by-sets (c .before .before .before .before .before .before .before .before .before .before .before .before .before .before .before .before .before .before .before .args .p .now) (c .before .before .before .before .before .before .before .before .before .before .before .before .before .before .before .before .before .before .before .args .length) (c .before .before .before .before .before .before .before .before .before .before .before .before .before .before .before .before .before .before .before .args .headers-end - 280 * c .before .before .before .before .before .before .before .before .before .before .before .before .before .before .before .before .before .before .before .args .entries) (c .before .before .before .before .before .before .before .before .before .before .before .before .before .before .before .before .before .before .before .args .entries) (dsds-of (c .before .before .before .before .before .before .before .before .before .before .before .before .before .before .before .before .before .before .before .pre .0)) (c .before .before .before .before .before .before .before .before .read-sets .result) _ (c .before .before .before .before .before .before .before .before .read-sets .ensures) (over-passes (c .before .before .before .before .before .before)))
+returns-3 c = accepted-all (c .before .before .before .before .before .before .before .before .before .before .before .before .before .args .p .now) (c .before .before .before .before .before .before .before .before .before .before .before .before .before .args .length) _ _ _ (c .enum-told2 .given .1) (c .before .before .check-sets .ensures) refl
 
 pub check-directory-spec : {M : Type 1} → statement M
 check-directory-spec =
     tie.close
     (tie.spec
-    mul-dsds
-    sub-dsds
+    mul-check-text
+    sub-check-text
     check-text-requires
     enum-known-text
     returns
     enum-told
-    read-sets-requires
-    enum-known-over
+    check-sets-requires
+    enum-known-listed
+    clear-sets-requires
     returns-2
     enum-told-2
-    check-numbers-requires
-    enum-known-numbers
-    returns-3
-    enum-told-3
-    check-places-requires
-    returns-4)
+    returns-3)
