@@ -4,7 +4,7 @@ ghost use mathlib.Core.Bool.{true, not, cond};
 ghost use Prim.Native.Nat.{ℕ, _+_, _*_, _-_, _≤_, _<_};
 ghost use lib.Dec.{ltb, eqb};
 ghost use lib.IntN.{pos};
-ghost use lib.ListN.{length};
+ghost use lib.ListN.{length, replicate};
 ghost use lib.Seq.{paste};
 ghost use mathlib.Core.List.{List, map};
 ghost use Rattle.layout.specs.Answer.{accepted, refused, _orElse_, need};
@@ -367,6 +367,16 @@ fn over_reading(place: usize, entry: usize) -> Reading
     }
 }
 
+fn full_reading(fitting: usize, counted: usize) -> Reading
+    ensures { λ r. ⌜ (verdictIs (r .over) ≡ accepted) × (r .fitting ≡ fitting) × (r .counted ≡ counted) ⌝ }
+{
+    Reading {
+        over: layout::Verdict::Accepted,
+        fitting,
+        counted,
+    }
+}
+
 // One reading of the entries. The arrays are lent: one that a call answers is copied at each return.
 fn read_sets(
     p: &[u8],
@@ -402,11 +412,7 @@ fn read_sets(
         counted = entry.counted_with(counted);
         i += 1;
     }
-    Reading {
-        over: layout::Verdict::Accepted,
-        fitting,
-        counted,
-    }
+    full_reading(fitting, counted)
 }
 
 // Rules 7 and 8: the SPH lines before the DSDs, and the DSDs.
@@ -580,32 +586,28 @@ fn copy_bytes(p: &[u8], from: usize, width: usize, out: &mut [u8], to: usize)
     }
 }
 
-// The names, 28 bytes an entry.
-fn copy_names(p: &[u8], dsds: usize, entries: usize) -> [u8; 3584]
-    requires { ⌜ Dsds (now p) dsds entries ⌝ }
-    ensures { λ r. ⌜ r ≡ padded 3584 0 (join (map nameOf (directory (now (p .entry))))) ⌝ }
+// The names, 28 bytes an entry, into zeros.
+fn copy_names(p: &[u8], dsds: usize, entries: usize, names: &mut [u8; 3584])
+    requires { ⌜ Dsds (now p) dsds entries × (now names ≡ replicate 3584 0) ⌝ }
+    ensures { λ r. ⌜ now (names .exit) ≡ padded 3584 0 (join (map nameOf (directory (now (p .entry))))) ⌝ }
 {
-    let mut names = [0u8; 3584];
     let mut i = 0;
     while i < entries {
-        copy_bytes(p, dsds + Entry::SIZE * i + 9, 28, &mut names, 28 * i);
+        copy_bytes(p, dsds + Entry::SIZE * i + 9, 28, names, 28 * i);
         i += 1;
     }
-    names
 }
 
-// The FILENAMEs, 62 bytes an entry.
-fn copy_filenames(p: &[u8], dsds: usize, entries: usize) -> [u8; 7936]
-    requires { ⌜ Dsds (now p) dsds entries ⌝ }
-    ensures { λ r. ⌜ r ≡ padded 7936 0 (join (map filenameOf (directory (now (p .entry))))) ⌝ }
+// The FILENAMEs, 62 bytes an entry, into zeros.
+fn copy_filenames(p: &[u8], dsds: usize, entries: usize, filenames: &mut [u8; 7936])
+    requires { ⌜ Dsds (now p) dsds entries × (now filenames ≡ replicate 7936 0) ⌝ }
+    ensures { λ r. ⌜ now (filenames .exit) ≡ padded 7936 0 (join (map filenameOf (directory (now (p .entry))))) ⌝ }
 {
-    let mut filenames = [0u8; 7936];
     let mut i = 0;
     while i < entries {
-        copy_bytes(p, dsds + Entry::SIZE * i + 59, 62, &mut filenames, 62 * i);
+        copy_bytes(p, dsds + Entry::SIZE * i + 59, 62, filenames, 62 * i);
         i += 1;
     }
-    filenames
 }
 
 // The directory whose numbers are at hand.
@@ -620,11 +622,15 @@ pub fn read_directory(p: &[u8], headers_end: usize, sets: Sets) -> layout::Direc
     let sizes = sets.sizes;
     let counts = sets.counts;
     let record_sizes = sets.record_sizes;
+    let mut names = [0u8; 3584];
+    let mut filenames = [0u8; 7936];
+    copy_names(p, dsds, entries, &mut names);
+    copy_filenames(p, dsds, entries, &mut filenames);
     layout::Directory {
         entries,
         types,
-        names: copy_names(p, dsds, entries),
-        filenames: copy_filenames(p, dsds, entries),
+        names,
+        filenames,
         offsets,
         sizes,
         counts,

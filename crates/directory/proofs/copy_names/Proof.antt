@@ -17,7 +17,7 @@ abbrev μ-loop : tie.MeasureT-loop
 μ-loop p dsds entries names₀ i₀ names i = entries - i
 
 loop-holds : tie.Need-loop-holds Inv-loop μ-loop
-loop-holds c = (omega arith, none-copied nameOf 28 3584 (c .before .args .p .now))
+loop-holds c = (omega arith, subst (λ (l : List ℕ). Copied nameOf 28 3584 (c .before .args .p .now) l 0) (sym (c .before .pre .1)) (none-copied nameOf 28 3584 (c .before .args .p .now)))
 
 mul-copy-bytes : tie.Need-mul-copy-bytes Inv-loop μ-loop
 mul-copy-bytes c = omega arith
@@ -27,9 +27,6 @@ add-copy-bytes c = omega arith
 
 add-copy-bytes-2 : tie.Need-add-copy-bytes-2 Inv-loop μ-loop
 add-copy-bytes-2 c = omega arith
-
-slice-aggregate-copy-bytes : tie.Need-slice-aggregate-copy-bytes Inv-loop μ-loop
-slice-aggregate-copy-bytes c = sym (c .before .before .loop .inv .1 .long)
 
 mul-copy-bytes-2 : tie.Need-mul-copy-bytes-2 Inv-loop μ-loop
 mul-copy-bytes-2 c = omega arith
@@ -46,14 +43,14 @@ loop-less c = omega arith
 loop-again : tie.Need-loop-again Inv-loop μ-loop
 loop-again c = (
   omega arith,
-  subst (λ (l : List ℕ). Copied nameOf 28 3584 (c .before .before .before .before .before .before .args .p .now) l (c .before .before .before .before .loop .i + 1)) (sym (c .before .copy-bytes .ensures))
-      (one-copied nameOf 28 3584 (c .before .before .before .before .before .before .args .p .now) (c .before .before .before .before .loop .names) (c .before .before .before .before .loop .i) (part (c .before .before .before .before .before .before .args .p .now) (c .before .before .before .before .before .before .args .dsds + 280 * c .before .before .before .before .loop .i + 9) 28) (c .before .before .before .before .loop .inv .1) (omega arith)
-      (name-here (c .before .before .before .before .before .before .args .p .now) (c .before .before .before .before .before .before .args .dsds) (c .before .before .before .before .before .before .args .entries) (c .before .before .before .before .loop .i) (c .before .before .before .before .before .before .pre))
-      (part-length (c .before .before .before .before .before .before .args .p .now) (c .before .before .before .before .before .before .args .dsds + 280 * c .before .before .before .before .loop .i + 9) 28 (omega arith))),
+  subst (λ (l : List ℕ). Copied nameOf 28 3584 (c .before .before .before .before .before .args .p .now) l (c .before .before .before .loop .i + 1)) (sym (c .copy-bytes .ensures))
+      (one-copied nameOf 28 3584 (c .before .before .before .before .before .args .p .now) (c .before .before .before .loop .names) (c .before .before .before .loop .i) (part (c .before .before .before .before .before .args .p .now) (c .before .before .before .before .before .args .dsds + 280 * c .before .before .before .loop .i + 9) 28) (c .before .before .before .loop .inv .1) (omega arith)
+      (name-here (c .before .before .before .before .before .args .p .now) (c .before .before .before .before .before .args .dsds) (c .before .before .before .before .before .args .entries) (c .before .before .before .loop .i) (c .before .before .before .before .before .pre .0))
+      (part-length (c .before .before .before .before .before .args .p .now) (c .before .before .before .before .before .args .dsds + 280 * c .before .before .before .loop .i + 9) 28 (omega arith))),
 )
 
 returns : tie.Need-returns Inv-loop μ-loop
-returns c = all-copied nameOf 28 3584 (c .before .before .before .args .p .now) (c .before .loop .names) (c .before .loop .i) (c .before .before .before .args .entries) (c .before .loop .inv .1) (omega arith) (c .before .before .before .pre .all)
+returns c = all-copied nameOf 28 3584 (c .before .before .before .args .p .now) (c .before .loop .names) (c .before .loop .i) (c .before .before .before .args .entries) (c .before .loop .inv .1) (omega arith) (c .before .before .before .pre .0 .all)
 
 pub copy-names-spec : {M : Type 1} → statement M
 copy-names-spec =
@@ -65,7 +62,6 @@ copy-names-spec =
     mul-copy-bytes
     add-copy-bytes
     add-copy-bytes-2
-    slice-aggregate-copy-bytes
     mul-copy-bytes-2
     copy-bytes-requires
     add-i

@@ -1,5 +1,6 @@
 -- `directory::read_directory` meets its contract.
 -- Assumes nothing.
+use mathlib.Core.Path.{refl}
 use Rattle.directory.proofs.Rules.{dsds-of}
 use Rattle.directory.proofs.Copies.{whole-directory}
 use borrow.Author.Needs.{needs}
@@ -13,13 +14,13 @@ sub-dsds : tie.Need-sub-dsds
 sub-dsds c = search needs
 
 copy-names-requires : tie.Need-copy-names-requires
-copy-names-requires c κs = dsds-of (c .before .before .before .before .before .before .pre .0)
+copy-names-requires c κs = (dsds-of (c .before .before .before .before .before .before .before .pre .0), refl)
 
 copy-filenames-requires : tie.Need-copy-filenames-requires
-copy-filenames-requires c κs = dsds-of (c .before .before .before .before .before .before .before .pre .0)
+copy-filenames-requires c κs = (dsds-of (c .before .before .before .before .before .before .before .before .before .pre .0), refl)
 
 returns : tie.Need-returns
-returns c = whole-directory (c .before .before .before .before .before .before .before .before .args .p .now) (c .before .before .before .before .before .before .before .before .args .sets) (c .before .before .before .before .before .before .before .before .pre .1) (c .before .copy-names .ensures) (c .copy-filenames .ensures)
+returns c = whole-directory (c .before .before .before .before .before .before .before .before .before .before .args .p .now) (c .before .before .before .before .before .before .before .before .before .before .args .sets) (c .before .before .before .before .before .before .before .before .before .before .pre .1) (c .before .before .copy-names .ensures) (c .copy-filenames .ensures)
 
 pub read-directory-spec : {M : Type 1} → statement M
 read-directory-spec =

@@ -11,7 +11,7 @@ use mir.Facts.{toZ-ofZ}
 use lib.Dec.{eqb}
 use lib.IntN.{pos}
 use Rattle.layout.specs.Answer.{need}
-use Rattle.layout.specs.Answers.{verdictIs, padded, typeOf, countOf, recordSizeOf}
+use Rattle.layout.specs.Answers.{padded, typeOf, countOf, recordSizeOf}
 use Rattle.layout.specs.Search.{first, count}
 use Rattle.layout.specs.Entries.{directory, entryAt, start, extent, numbersFit, isData}
 use Rattle.layout.specs.Rules.{rule9At, rule10At, isDataAt}
@@ -173,16 +173,18 @@ loop-again c =
       one-more roleOf 0 (c .before .before .before .before .before .before .before .before .before .before .args .p .now) (c .before .before .before .before .before .before .before .before .loop .roles) (c .before .before .before .before .before .before .before .before .loop .i) _ (omega arith) (c .before .before .before .before .before .before .before .before .loop .inv .11) (c .before .before .role .ensures ∙ t .roles),
     )
 
+full-reading-requires : tie.Need-full-reading-requires Inv-loop μ-loop
+full-reading-requires c κs = search needs
+
 returns-2 : tie.Need-returns-2 Inv-loop μ-loop
-unfolding verdictIs
 returns-2 c =
-    let e : c .before .loop .i ≡ c .before .before .before .args .entries = omega arith in
+    let e : c .before .before .loop .i ≡ c .before .before .before .before .args .entries = omega arith in
     record {
-      nine = sym (left-end (rule9At (c .before .before .before .args .p .now)) (c .before .before .before .args .entries) (c .before .loop .i) (c .before .loop .inv .1) (omega arith));
-      within = omega arith;
-      ten = λ a. rw (← e) (c .before .loop .inv .3);
-      eleven = λ a. rw (← e) (c .before .loop .inv .5);
-      read = λ a. sets-read (c .before .before .before .args .p .now) (c .before .before .before .args .entries) (c .before .loop .i) (c .before .before .before .pre .0 .all) e (c .before .loop .inv .6) (c .before .loop .inv .7) (c .before .loop .inv .8) (c .before .loop .inv .9) (c .before .loop .inv .10) (c .before .loop .inv .11);
+      nine = c .full-reading .ensures .0 ∙ sym (left-end (rule9At (c .before .before .before .before .args .p .now)) (c .before .before .before .before .args .entries) (c .before .before .loop .i) (c .before .before .loop .inv .1) (omega arith));
+      within = omega (arith, c .full-reading .ensures .1);
+      ten = λ a. rw (c .full-reading .ensures .1, ← e) (c .before .before .loop .inv .3);
+      eleven = λ a. c .full-reading .ensures .2 ∙ rw (← e) (c .before .before .loop .inv .5);
+      read = λ a. sets-read (c .before .before .before .before .args .p .now) (c .before .before .before .before .args .entries) (c .before .before .loop .i) (c .before .before .before .before .pre .0 .all) e (c .before .before .loop .inv .6) (c .before .before .loop .inv .7) (c .before .before .loop .inv .8) (c .before .before .loop .inv .9) (c .before .before .loop .inv .10) (c .before .before .loop .inv .11);
     }
 
 pub read-sets-spec : {M : Type 1} → statement M
@@ -216,4 +218,5 @@ read-sets-spec =
     add-i
     loop-less
     loop-again
+    full-reading-requires
     returns-2)
