@@ -320,7 +320,9 @@ pub fn put_directory(room: &mut [u64], verdict: Verdict, directory: Directory) -
     let entries = [directory.entries as u64];
     let judged = put_verdict(room, verdict);
     let counted = put_words(room, judged, &entries);
-    let typed = put_bytes(room, counted, &directory.types);
+    // A copy of the types alone: lent out of the directory, they would keep a copy of it all.
+    let types = directory.types;
+    let typed = put_bytes(room, counted, &types);
     let filled = put_arrays(
         room,
         typed,
