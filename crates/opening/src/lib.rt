@@ -13,6 +13,7 @@ ghost use Rattle.directory.specs.Checks.{together, noSets, Headers};
 ghost use Rattle.opening.specs.Roles.{roleWithin, unfilled, unfilledAt, rule16By};
 ghost use Rattle.opening.specs.Opening.{Laid, describedRules, Judged, closed, Opened};
 use directory::Sets;
+use header::HeaderCheck;
 use layout::Refusal;
 use layout::Verdict;
 use states::State;
@@ -151,8 +152,7 @@ fn refused_opening(refusal: Refusal) -> Opening
 // Rules 7 to 16, of a product that meets rules 1 to 6, its numbers read into arrays of zeros.
 fn judge_headed(
     p: &[u8],
-    headers_end: usize,
-    entries: usize,
+    header: HeaderCheck,
     types: &mut [u8; 128],
     offsets: &mut [u64; 128],
     sizes: &mut [u64; 128],
@@ -160,14 +160,14 @@ fn judge_headed(
     record_sizes: &mut [i64; 128],
     roles: &mut [u8; 128],
 ) -> Verdict
-    requires { ⌜ (rules1to6 (now p) (length (now p)) ≡ accepted) × Headers (now p) «headers_end» entries × (together 0 (now types) (now offsets) (now sizes) (now counts) (now «record_sizes») (now roles) ≡ noSets) ⌝ }
-    ensures { λ r. ⌜ Judged (now (p .entry)) r (together entries (now (types .exit)) (now (offsets .exit)) (now (sizes .exit)) (now (counts .exit)) (now («record_sizes» .exit)) (now (roles .exit))) ⌝ }
+    requires { ⌜ (rules1to6 (now p) (length (now p)) ≡ accepted) × Headers (now p) (header .«headers_end») (header .entries) × (together 0 (now types) (now offsets) (now sizes) (now counts) (now «record_sizes») (now roles) ≡ noSets) ⌝ }
+    ensures { λ r. ⌜ Judged (now (p .entry)) r (together (header .entries) (now (types .exit)) (now (offsets .exit)) (now (sizes .exit)) (now (counts .exit)) (now («record_sizes» .exit)) (now (roles .exit))) ⌝ }
 {
     let checked = directory::check_directory(
         p,
         p.len() as u64,
-        headers_end,
-        entries,
+        header.headers_end,
+        header.entries,
         types,
         offsets,
         sizes,
@@ -178,18 +178,16 @@ fn judge_headed(
     if let Verdict::Refused(refusal) = checked {
         return Verdict::Refused(refusal);
     }
-    judge_states(
-        p,
-        Sets::of(
-            entries,
-            *types,
-            *offsets,
-            *sizes,
-            *counts,
-            *record_sizes,
-            *roles,
-        ),
-    )
+    let sets = Sets::of(
+        header.entries,
+        *types,
+        *offsets,
+        *sizes,
+        *counts,
+        *record_sizes,
+        *roles,
+    );
+    judge_states(p, sets)
 }
 
 // All sixteen rules, in their order. The arrays are made here and lent: the numbers are copied once, into the answer.
@@ -211,8 +209,7 @@ pub fn open_product(p: &[u8]) -> Opening
     let mut roles = [0u8; 128];
     let judged = judge_headed(
         p,
-        headers_end,
-        entries,
+        header,
         &mut types,
         &mut offsets,
         &mut sizes,
