@@ -1,5 +1,5 @@
-//! What is stored in the repository is what the twin makes: the products and the text of `crates/vectors`, and the
-//! samples.
+//! What is stored in the repository is what the twin makes: the products and the text of `crates/vectors`, those of
+//! `crates/listing`, and the samples.
 
 use std::collections::BTreeSet;
 use std::fs;
@@ -64,6 +64,17 @@ fn the_stored_products_are_the_builders() {
         let product = stored(&format!("crates/vectors/data/{name}"));
         assert!(Some(product) == named_product(name), "{name} is not what twin-make {name} writes");
     }
+}
+
+#[test]
+fn the_stored_listings_are_the_twins() {
+    let mut text = Vec::new();
+    for name in names_in("crates/listing/stored") {
+        let product = stored(&format!("crates/listing/stored/{name}"));
+        text.extend(listing(&product));
+        assert!(Some(product) == named_product(&name), "{name} is not what twin-make {name} writes");
+    }
+    assert!(stored("crates/listing/stored.stdout") == text, "not what twin-list prints");
 }
 
 #[test]
