@@ -16,7 +16,7 @@ use Rattle.layout.specs.declared.Directory.{Directory}
 use Rattle.directory.specs.Checks.{entriesTo, setsOf, Dsds}
 use Rattle.directory.specs.declared.Sets.{Sets}
 use Rattle.directory.proofs.Loops.{to-next, to-all}
-use Rattle.directory.proofs.Places.{entry-placed}
+use Rattle.dsd.proofs.Places.{entry-placed}
 use Rattle.directory.proofs.Turns.{place}
 
 -- ---- a part copied byte by byte

@@ -19,7 +19,7 @@ use Rattle.layout.specs.Rules.{isDataAt}
 use Rattle.layout.specs.Answers.{padded, typeOf, countOf, recordSizeOf}
 use Rattle.layout.proofs.Laws.{orElse-assoc, orElse-accepted, first-step}
 use Rattle.layout.proofs.Sound.{length-map-upto, length-directory, at-directory}
-use Rattle.directory.specs.Held.{roleOf}
+use Rattle.dsd.specs.Held.{roleOf}
 use Rattle.directory.specs.Checks.{entriesTo, setsOf}
 use Rattle.directory.specs.declared.Sets.{Sets}
 

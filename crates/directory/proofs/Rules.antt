@@ -29,13 +29,13 @@ use Rattle.layout.proofs.Types.{laidOut-typed}
 use Rattle.text.specs.Numbers.{numberIn}
 use Rattle.text.specs.declared.Number.{Number as HeldNumber}
 use Rattle.sets.specs.Sets.{Held}
-use Rattle.directory.specs.Held.{numberFrom}
-use Rattle.directory.specs.Checks.{rules7to14, together, setsOf, noSets, Headers, Dsds, ReadAll, Listed, Checked}
+use Rattle.dsd.specs.Held.{numberFrom}
+use Rattle.directory.specs.Checks.{rules7to14, setsOf, Headers, Dsds, ReadAll, Listed}
 use Rattle.directory.specs.declared.Sets.{Sets}
 use Rattle.directory.specs.declared.Reading.{Reading}
-use Rattle.directory.proofs.Numbers.{is-zero, above, from-zero, equals, both-pass}
-use Rattle.directory.proofs.Fits.{all-four}
-use Rattle.directory.proofs.Places.{short-number}
+use Rattle.dsd.proofs.Numbers.{is-zero, above, from-zero, equals, both-pass}
+use Rattle.dsd.proofs.Fits.{all-four}
+use Rattle.dsd.proofs.Places.{short-number}
 
 -- ---- where the DSDs begin
 
@@ -201,16 +201,6 @@ module _ (b : List ℕ) (n : ℕ) where
   -- the last verdict, of rules 12 to 14
   pub passed : (r : Verdict) (sets : Sets) → text ≡ accepted → rule9 b n ≡ accepted → numbers ≡ accepted → verdictIs r ≡ places → sets ≡ setsOf (directory b) → Listed b n r sets
   passed r sets a o k h s = record { verdict = h ∙ sym (rules-split ∙ rw (a, o, k)); read = λ q. s }
-
-  -- beside a refusal the arrays are cleared, or still as lent
-  pub refused-none : (r : Verdict) (sets : Sets) {m p e : ℕ} → rules7to14 b n ≡ refused m p e → verdictIs r ≡ refused m p e
-      → together 0 (sets .types) (sets .offsets) (sets .sizes) (sets .counts) (sets .«record_sizes») (sets .roles) ≡ noSets → Checked b n r sets
-  refused-none r sets q h z = record { listed = stopped r sets q h; none = λ m p e x. z }
-
-  pub accepted-all : (v r : Verdict) (sets : Sets) → v ≡ r → Listed b n v sets → verdictIs r ≡ accepted → Checked b n r sets
-  accepted-all v r sets q l h =
-      let same = sym (ap verdictIs q) ∙ l .verdict in
-      record { listed = record { verdict = same; read = l .read }; none = λ m p e x. absurd (accepted≢refused (sym h ∙ same ∙ x)) }
 
 -- ---- what a reading gives of rules 9 to 11, and the numbers of rules 12 to 14
 

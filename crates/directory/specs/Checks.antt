@@ -6,7 +6,7 @@ use mathlib.Core.Path.{_≡_}
 use lib.Dec.{eqb}
 use lib.IntN.{ℤ, pos}
 use lib.ListN.{length, replicate}
-use Rattle.layout.specs.Answer.{Answer, accepted, refused, _orElse_, need}
+use Rattle.layout.specs.Answer.{Answer, accepted, _orElse_, need}
 use Rattle.layout.specs.Search.{first, count, upto}
 use Rattle.layout.specs.Entries.{Entry, headersEnd, entries, dsdAt, entryAt, directory, start, extent}
 use Rattle.layout.specs.Rules.{rule7, rule8, rule9At, rule9, rule10At, rule10, isDataAt, rule11, rule12, rule13, rule14}
@@ -14,7 +14,7 @@ use Rattle.layout.specs.Answers.{padded, typeOf, countOf, recordSizeOf, verdict
 use Rattle.directory.specs.declared.Sets.{Sets}
 use Rattle.directory.specs.declared.Reading.{Reading}
 use Rattle.layout.specs.declared.Verdict.{Verdict}
-use Rattle.directory.specs.Held.{roleOf}
+use Rattle.dsd.specs.Held.{roleOf}
 
 unfoldable pub rules7to14 : List ℕ → ℕ → Answer
 rules7to14 b n =
@@ -82,9 +82,3 @@ pub record ReadAll (b : List ℕ) (dsds n : ℕ) (r : Reading) (sets : Sets) : T
 pub record Listed (b : List ℕ) (n : ℕ) (r : Verdict) (sets : Sets) : Type 0 where
   pub verdict : verdictIs r ≡ rules7to14 b n
   pub read : rules7to14 b n ≡ accepted → sets ≡ setsOf (directory b)
-
--- the same; beside a refusal all numbers are zero
-pub record Checked (b : List ℕ) (n : ℕ) (r : Verdict) (sets : Sets) : Type 0 where
-  pub listed : Listed b n r sets
-  pub none : (m p e : ℕ) → rules7to14 b n ≡ refused m p e
-      → together 0 (sets .types) (sets .offsets) (sets .sizes) (sets .counts) (sets .«record_sizes») (sets .roles) ≡ noSets

@@ -1,5 +1,3 @@
-pub mod Build
-pub mod Cases
 pub mod Starts
 pub mod Laws
 pub mod Types
@@ -13,3 +11,4 @@ pub mod Padded
 pub mod Whole
 pub mod Agree
 pub mod Maps
+pub mod Signs

@@ -17,7 +17,7 @@ use Rattle.layout.specs.declared.Verdict.the-variants.{Accepted, Refused}
 use Rattle.layout.proofs.Laws.{orElse-assoc, orElse-accepts, orElse-accepted, accepted≢refused}
 use Rattle.header.specs.Checks.{rules1to6, HeaderChecked}
 use Rattle.header.specs.declared.HeaderCheck.{HeaderCheck}
-use Rattle.directory.specs.Checks.{rules7to14, setsOf, Headers, Checked}
+use Rattle.directory.specs.Checks.{rules7to14, setsOf, Headers, Listed}
 use Rattle.directory.specs.declared.Sets.{Sets}
 use Rattle.opening.specs.Opening.{Laid, Judged, closed, Opened}
 use Rattle.opening.specs.declared.Opening.{Opening}
@@ -64,22 +64,22 @@ module _ (b : List ℕ) where
           let fit = checked .headers six in
           record { ends = fit .end-is; all = fit .entries-are; most = fit .entries-most; room = fit .dsds-fit; inside = fit .inside }
 
-  module _ (good : rules1to6 b (length b) ≡ accepted) (found : Verdict) (numbers : Sets) (checked : Checked b (length b) found numbers) where
+  module _ (good : rules1to6 b (length b) ≡ accepted) (found : Verdict) (numbers : Sets) (checked : Listed b (length b) found numbers) where
     pub directory-refused : (r : Refusal) → found ≡ Refused r → Judged b (Refused r) numbers
     unfolding verdictIs
     directory-refused r h =
-        let q : verdict b ≡ refused (r .number) (r .place) (r .entry) = in-parts ∙ rw (good, told found r (rules7to14 b (length b)) h (checked .listed .verdict)) in
+        let q : verdict b ≡ refused (r .number) (r .place) (r .entry) = in-parts ∙ rw (good, told found r (rules7to14 b (length b)) h (checked .verdict)) in
         record { judged = sym q; held = λ a. absurd (accepted≢refused (sym a ∙ q)) }
 
     module _ (fine : found ≡ Accepted) where
       fourteen : rules7to14 b (length b) ≡ accepted
-      fourteen = passed found (rules7to14 b (length b)) fine (checked .listed .verdict)
+      fourteen = passed found (rules7to14 b (length b)) fine (checked .verdict)
 
       pub laid : (sets : Sets) → sets ≡ numbers → Laid b sets
-      laid sets q = record { rules = headers-in-parts ∙ rw (good, fourteen); held = q ∙ checked .listed .read fourteen }
+      laid sets q = record { rules = headers-in-parts ∙ rw (good, fourteen); held = q ∙ checked .read fourteen }
 
       pub all-judged : (v : Verdict) → verdictIs v ≡ states → Judged b v numbers
-      all-judged v h = record { judged = h ∙ sym (in-parts ∙ rw (good, fourteen)); held = λ a. checked .listed .read fourteen }
+      all-judged v h = record { judged = h ∙ sym (in-parts ∙ rw (good, fourteen)); held = λ a. checked .read fourteen }
 
   module _ (v : Verdict) (numbers : Sets) (judged : Judged b v numbers) where
     pub judged-refused : (r : Refusal) (x : Opening) → x ≡ closed r → v ≡ Refused r → Opened b x

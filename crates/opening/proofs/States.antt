@@ -24,7 +24,7 @@ use Rattle.layout.proofs.Padded.{padded-at}
 use Rattle.states.specs.States.{cap, capped, tallyIs}
 use Rattle.states.proofs.Sums.{capped-eqb}
 use Rattle.states.proofs.Laws.{ofKind-capped}
-use Rattle.directory.specs.Held.{roleOf}
+use Rattle.dsd.specs.Held.{roleOf}
 use Rattle.directory.specs.Checks.{setsOf}
 use Rattle.directory.specs.declared.Sets.{Sets}
 use Rattle.opening.specs.Roles.{roleWithin, unfilled, unfilledAt}

@@ -73,7 +73,7 @@ pub fn sph_place(p: &[u8]) -> Place
         return Place::Refused(refusal);
     }
     let sets = opened.sets;
-    let lines = opened.headers_end - MainHeader::SIZE - directory::Entry::SIZE * sets.entries;
+    let lines = opened.headers_end - MainHeader::SIZE - dsd::Entry::SIZE * sets.entries;
     Place::At {
         place: MainHeader::SIZE as u64,
         length: lines as u64,

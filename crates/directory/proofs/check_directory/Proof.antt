@@ -1,9 +1,9 @@
--- `directory::check_directory` meets its contract: beside a refusal the arrays are zero, as they were lent or cleared.
+-- `directory::check_directory` meets its contract: the first check that refuses decides.
 -- Assumes nothing.
 use mathlib.Core.Path.{_≡_, sym, ap, _∙_, refl}
 use native.Mathlib.Omega.{arith}
 use Rattle.layout.specs.Answers.{verdictIs}
-use Rattle.directory.proofs.Rules.{dsds-of, stop-text, refused-none, accepted-all}
+use Rattle.directory.proofs.Rules.{dsds-of, stopped, stop-text}
 use borrow.Author.Needs.{needs}
 use Rattle.directory.proofs.check_directory.Statement.{statement}
 use Rattle.directory.proofs.check_directory.Tie as tie
@@ -22,7 +22,7 @@ enum-known-text c = search needs
 
 returns : tie.Need-returns
 unfolding verdictIs
-returns c = refused-none (c .before .before .before .before .before .args .p .now) (c .before .before .before .before .before .args .length) _ _ (stop-text (c .before .before .before .before .before .args .p .now) (c .before .before .before .before .before .args .length) (sym (ap verdictIs (c .before .text .given .1)) ∙ c .before .before .before .check-text .ensures (c .before .before .before .before .before .args .length))) refl (c .before .before .before .before .before .pre .1)
+returns c = stopped (c .before .before .before .before .before .args .p .now) (c .before .before .before .before .before .args .length) _ _ (stop-text (c .before .before .before .before .before .args .p .now) (c .before .before .before .before .before .args .length) (sym (ap verdictIs (c .before .text .given .1)) ∙ c .before .before .before .check-text .ensures (c .before .before .before .before .before .args .length))) refl
 
 enum-told : tie.Need-enum-told
 enum-told c = search needs
@@ -31,22 +31,8 @@ check-sets-requires : tie.Need-check-sets-requires
 unfolding verdictIs
 check-sets-requires c κs = (c .before .before .before .before .before .before .before .before .before .before .pre .0, sym (c .before .before .before .before .before .before .before .before .check-text .ensures (c .before .before .before .before .before .before .before .before .before .before .args .length)) ∙ ap verdictIs (c .before .before .before .before .before .before .enum-told .given .1), c .before .before .before .before .before .before .before .before .before .before .pre .1)
 
-enum-known-listed : tie.Need-enum-known-listed
-enum-known-listed c = search needs
-
-clear-sets-requires : tie.Need-clear-sets-requires
-clear-sets-requires c κs = search needs
-
 returns-2 : tie.Need-returns-2
-unfolding verdictIs
-returns-2 c = refused-none (c .before .before .before .before .before .before .before .before .before .before .before .before .before .before .before .before .before .before .before .before .before .args .p .now) (c .before .before .before .before .before .before .before .before .before .before .before .before .before .before .before .before .before .before .before .before .before .args .length) _ _ (sym (c .before .before .before .before .before .before .before .before .before .before .check-sets .ensures .verdict) ∙ ap verdictIs (c .before .before .before .before .before .before .before .before .listed .given .1)) refl (c .clear-sets .ensures)
-
-enum-told-2 : tie.Need-enum-told-2
-enum-told-2 c = search needs
-
-returns-3 : tie.Need-returns-3
-unfolding verdictIs
-returns-3 c = accepted-all (c .before .before .before .before .before .before .before .before .before .before .before .before .before .args .p .now) (c .before .before .before .before .before .before .before .before .before .before .before .before .before .args .length) _ _ _ (c .enum-told2 .given .1) (c .before .before .check-sets .ensures) refl
+returns-2 c = c .check-sets .ensures
 
 pub check-directory-spec : {M : Type 1} → statement M
 check-directory-spec =
@@ -59,8 +45,4 @@ check-directory-spec =
     returns
     enum-told
     check-sets-requires
-    enum-known-listed
-    clear-sets-requires
-    returns-2
-    enum-told-2
-    returns-3)
+    returns-2)

@@ -5,8 +5,8 @@ use mathlib.Core.Bool.{and-false}
 use native.Mathlib.Omega.{arith}
 use borrow.Author.Tests.{eq-eqb, ne-eqb}
 use Rattle.layout.specs.Answers.{verdictIs}
-use Rattle.directory.specs.Held.{numberFrom}
-use Rattle.directory.proofs.Numbers.{negative, positive}
+use Rattle.dsd.specs.Held.{numberFrom}
+use Rattle.dsd.proofs.Numbers.{negative, positive}
 use Rattle.directory.proofs.Rules.{eleven-by}
 use borrow.Author.Needs.{needs}
 use Rattle.directory.proofs.check_numbers.Statement.{statement}

@@ -16,10 +16,11 @@ use Rattle.layout.specs.Search.{first, count}
 use Rattle.layout.specs.Entries.{directory, entryAt, start, extent, numbersFit, isData}
 use Rattle.layout.specs.Rules.{rule9At, rule10At, isDataAt}
 use Rattle.layout.proofs.Laws.{accepted≢refused}
-use Rattle.directory.specs.Held.{viewOf, roleOf}
+use Rattle.dsd.specs.Held.{viewOf, roleOf}
 use Rattle.directory.specs.Checks.{entriesTo}
 use Rattle.directory.specs.declared.Sets.{Sets}
-use Rattle.directory.proofs.Turns.{Turn, turn, over-most, nine-refused, nine-accepted, ten}
+use Rattle.dsd.proofs.Views.{Turn, over-most}
+use Rattle.directory.proofs.Turns.{turn, nine-refused, nine-accepted, ten}
 use Rattle.directory.proofs.Loops.{left-all, left-refused, left-next, left-end, none-first, none-counted, none-held, one-more, ten-next, eleven-next, sets-read}
 use Rattle.directory.proofs.read_sets.Statement.{statement}
 use Rattle.directory.proofs.read_sets.Tie as tie

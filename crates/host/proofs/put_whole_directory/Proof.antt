@@ -1,7 +1,9 @@
 -- `host::put_whole_directory` meets its contract.
 -- Assumes nothing.
 use native.Mathlib.Omega.{arith}
-use lib.ListN.{length-map}
+use mathlib.Core.Path.{_≡_}
+use lib.ListN.{length, length-map}
+use Rattle.words.specs.Words.{directoryWords, directoryTexts}
 use Rattle.layout.specs.Answers.{verdictIs}
 use Rattle.host.proofs.Rooms.{first-short, second-short, both-written}
 use Rattle.host.proofs.Lengths.{directory-words, directory-texts}
@@ -9,21 +11,18 @@ use borrow.Author.Needs.{needs}
 use Rattle.host.proofs.put_whole_directory.Statement.{statement}
 use Rattle.host.proofs.put_whole_directory.Tie as tie
 
+-- how long the answer is, by the lengths of the directory's arrays
+words-long : (s : tie.Start) → length (directoryWords (verdictIs (s .args .verdict)) (s .args .directory)) ≡ 644
+words-long s = let g = s .good .1 .0 .1 .1 in directory-words (verdictIs (s .args .verdict)) (s .args .directory) (simp length-map at (g .1 .0 .1 .0 .1)) (simp length-map at (g .1 .1 .1 .1 .0 .1 .0 .1)) (simp length-map at (g .1 .1 .1 .1 .1 .0 .1 .0 .1)) (simp length-map at (g .1 .1 .1 .1 .1 .1 .0 .1 .0 .1)) (simp length-map at (g .1 .1 .1 .1 .1 .1 .1 .0 .1 .0 .1))
+
+texts-long : (s : tie.Start) → length (directoryTexts (s .args .directory)) ≡ 11520
+texts-long s = let g = s .good .1 .0 .1 .1 in directory-texts (s .args .directory) (simp length-map at (g .1 .1 .0 .1 .0 .1)) (simp length-map at (g .1 .1 .1 .0 .1 .0 .1))
+
 returns : tie.Need-returns
-returns c =
-    let v = verdictIs (c .before .before .before .args .verdict) in
-    let d = c .before .before .before .args .directory in
-    let w = directory-words v d (simp length-map at (c .before .before .before .good .1 .0 .1 .1 .1 .0 .1 .0 .1)) (simp length-map at (c .before .before .before .good .1 .0 .1 .1 .1 .1 .1 .1 .0 .1 .0 .1)) (simp length-map at (c .before .before .before .good .1 .0 .1 .1 .1 .1 .1 .1 .1 .0 .1 .0 .1)) (simp length-map at (c .before .before .before .good .1 .0 .1 .1 .1 .1 .1 .1 .1 .1 .0 .1 .0 .1)) (simp length-map at (c .before .before .before .good .1 .0 .1 .1 .1 .1 .1 .1 .1 .1 .1 .0 .1 .0 .1)) in
-    let t = directory-texts d (simp length-map at (c .before .before .before .good .1 .0 .1 .1 .1 .1 .0 .1 .0 .1)) (simp length-map at (c .before .before .before .good .1 .0 .1 .1 .1 .1 .1 .0 .1 .0 .1)) in
-    first-short _ (c .before .before .before .args .words .now) _ (c .before .before .before .args .texts .now) (rw w (omega arith))
+returns c = first-short _ (c .before .before .before .args .words .now) _ (c .before .before .before .args .texts .now) (rw (words-long (c .before .before .before)) (omega arith))
 
 returns-2 : tie.Need-returns-2
-returns-2 c =
-    let v = verdictIs (c .before .before .before .before .args .verdict) in
-    let d = c .before .before .before .before .args .directory in
-    let w = directory-words v d (simp length-map at (c .before .before .before .before .good .1 .0 .1 .1 .1 .0 .1 .0 .1)) (simp length-map at (c .before .before .before .before .good .1 .0 .1 .1 .1 .1 .1 .1 .0 .1 .0 .1)) (simp length-map at (c .before .before .before .before .good .1 .0 .1 .1 .1 .1 .1 .1 .1 .0 .1 .0 .1)) (simp length-map at (c .before .before .before .before .good .1 .0 .1 .1 .1 .1 .1 .1 .1 .1 .0 .1 .0 .1)) (simp length-map at (c .before .before .before .before .good .1 .0 .1 .1 .1 .1 .1 .1 .1 .1 .1 .0 .1 .0 .1)) in
-    let t = directory-texts d (simp length-map at (c .before .before .before .before .good .1 .0 .1 .1 .1 .1 .0 .1 .0 .1)) (simp length-map at (c .before .before .before .before .good .1 .0 .1 .1 .1 .1 .1 .0 .1 .0 .1)) in
-    second-short _ (c .before .before .before .before .args .words .now) _ (c .before .before .before .before .args .texts .now) (rw w (omega arith)) (rw t (omega arith))
+returns-2 c = second-short _ (c .before .before .before .before .args .words .now) _ (c .before .before .before .before .args .texts .now) (rw (words-long (c .before .before .before .before)) (omega arith)) (rw (texts-long (c .before .before .before .before)) (omega arith))
 
 put-directory-requires : tie.Need-put-directory-requires
 put-directory-requires c κs = search needs
@@ -38,12 +37,7 @@ same-length-2 : tie.Need-same-length-2
 same-length-2 c = search needs
 
 returns-3 : tie.Need-returns-3
-returns-3 c =
-    let v = verdictIs (c .before .before .before .before .before .before .before .before .before .before .before .before .args .verdict) in
-    let d = c .before .before .before .before .before .before .before .before .before .before .before .before .args .directory in
-    let w = directory-words v d (simp length-map at (c .before .before .before .before .before .before .before .before .before .before .before .before .good .1 .0 .1 .1 .1 .0 .1 .0 .1)) (simp length-map at (c .before .before .before .before .before .before .before .before .before .before .before .before .good .1 .0 .1 .1 .1 .1 .1 .1 .0 .1 .0 .1)) (simp length-map at (c .before .before .before .before .before .before .before .before .before .before .before .before .good .1 .0 .1 .1 .1 .1 .1 .1 .1 .0 .1 .0 .1)) (simp length-map at (c .before .before .before .before .before .before .before .before .before .before .before .before .good .1 .0 .1 .1 .1 .1 .1 .1 .1 .1 .0 .1 .0 .1)) (simp length-map at (c .before .before .before .before .before .before .before .before .before .before .before .before .good .1 .0 .1 .1 .1 .1 .1 .1 .1 .1 .1 .0 .1 .0 .1)) in
-    let t = directory-texts d (simp length-map at (c .before .before .before .before .before .before .before .before .before .before .before .before .good .1 .0 .1 .1 .1 .1 .0 .1 .0 .1)) (simp length-map at (c .before .before .before .before .before .before .before .before .before .before .before .before .good .1 .0 .1 .1 .1 .1 .1 .0 .1 .0 .1)) in
-    both-written _ (c .before .before .before .before .before .before .before .before .before .before .before .before .args .words .now) _ (c .before .before .before .before .before .before .before .before .before .before .before .before .args .texts .now) (c .before .before .before .before .before .before .put-directory .ensures) (c .before .before .put-directory-texts .ensures) (rw w (omega (arith, c .before .before .before .before .before .before .before .before .before .if1 .left))) (rw t (omega (arith, c .before .before .before .before .before .before .before .before .if2 .left)))
+returns-3 c = both-written _ (c .before .before .before .before .before .before .before .before .before .before .before .before .args .words .now) _ (c .before .before .before .before .before .before .before .before .before .before .before .before .args .texts .now) (c .before .before .before .before .before .before .put-directory .ensures) (c .before .before .put-directory-texts .ensures) (rw (words-long (c .before .before .before .before .before .before .before .before .before .before .before .before)) (omega (arith, c .before .before .before .before .before .before .before .before .before .if1 .left))) (rw (texts-long (c .before .before .before .before .before .before .before .before .before .before .before .before)) (omega (arith, c .before .before .before .before .before .before .before .before .if2 .left)))
 
 pub put-whole-directory-spec : {M : Type 1} → statement M
 put-whole-directory-spec =

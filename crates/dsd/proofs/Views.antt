@@ -1,0 +1,126 @@
+-- What is held of an entry against the entry itself, where rule 9 holds of it.
+-- Assumes nothing.
+use Prim.Native.Nat.{ℕ, _≤_, _<_}
+use mathlib.Core.Bool.{Bool, true, false, cond}
+use mathlib.Core.List.{List, []}
+use mathlib.Core.Logic.{_⊎_, inl, inr}
+use mathlib.Core.Path.{_≡_, refl, sym, ap, _∙_}
+use native.Mathlib.Omega.{arith}
+use lib.Dec.{leb}
+use borrow.Author.Tests.{le-leb, lt-leb, leb-true}
+use Rattle.layout.specs.Bytes.{bytes}
+use Rattle.layout.specs.Text.{whole}
+use Rattle.layout.specs.Entries.{Entry, most, called, start, extent, kindOf, isData, isReference, isVariable, isStates, allZero, inRange, isFixed, setFits, numbersFit}
+use Rattle.layout.specs.Answers.{typeOf, countOf, recordSizeOf}
+use Rattle.layout.proofs.Laws.{lt-or-le}
+use Rattle.text.specs.Numbers.{capped, wholeIn}
+use Rattle.dsd.specs.declared.Entry.{Entry as HeldEntry}
+use Rattle.dsd.specs.Held.{nameRole, nameText, numberFrom, heldOf, viewOf, overPlace, roleOf}
+use Rattle.dsd.proofs.Names.{kind-role, states-role, role-again}
+
+-- ---- numbers held at 2^63
+
+pub capped-test : (m : ℕ) → leb (capped m) most ≡ leb m most
+unfolding capped
+capped-test m = go (lt-or-le most m)
+  where
+    go : (most < m) ⊎ (m ≤ most) → leb (capped m) most ≡ leb m most
+    go (inl h) = rw (lt-leb m most h) (lt-leb (capped m) most (omega arith))
+    go (inr h) = rw (le-leb m most h) (le-leb (capped m) most (omega arith))
+
+capped-same : (m : ℕ) → leb (capped m) most ≡ true → capped m ≡ m
+unfolding capped
+capped-same m h = let l = leb-true (capped m) most h in omega arith
+
+over-none : (t u : Bool) → _≡_ {A = ℕ} (cond t (cond u 0 170) 133) 0 → (t ≡ true) × (u ≡ true)
+over-none true true h = (refl, refl)
+over-none true false h = absurd (omega arith)
+over-none false u h = absurd (omega arith)
+
+pub over-most : (e : Entry) {r : ℕ} → r ≡ overPlace e → r ≤ 170
+unfolding overPlace
+over-most e h = go (leb (e .offset .magnitude) most) (leb (e .size .magnitude) most) h
+  where
+    go : (t u : Bool) {r : ℕ} → r ≡ cond t (cond u 0 170) 133 → r ≤ 170
+    go true true h = omega arith
+    go true false h = omega arith
+    go false u h = omega arith
+
+-- ---- the entry under another name
+
+abbrev renamed : Entry → List ℕ → Entry
+renamed e name =
+    record { type = e .type; name = name; filename = []; offset = e .offset; size = e .size; count = e .count; recordSize = e .recordSize }
+
+module _ (e : Entry) where
+  abbrev by-role : Entry
+  by-role = renamed e (nameText (nameRole (e .name)))
+
+  same-kind : kindOf by-role ≡ kindOf e
+  same-kind = kind-role by-role ∙ rw (role-again (e .name)) (sym (kind-role e))
+
+  same-states : called (nameText (nameRole (e .name))) (bytes "STATES") ≡ called (e .name) (bytes "STATES")
+  same-states = states-role (nameText (nameRole (e .name))) ∙ rw (role-again (e .name)) (sym (states-role (e .name)))
+
+  same-variable : isVariable by-role ≡ isVariable e
+  unfolding isVariable
+  same-variable = rw same-kind
+
+  same-fits : numbersFit by-role ≡ numbersFit e
+  unfolding numbersFit isReference isData allZero inRange setFits isFixed
+  same-fits = rw same-variable
+
+  same-role : roleOf by-role ≡ roleOf e
+  unfolding roleOf isStates
+  same-role = rw (same-variable, same-kind, same-states)
+
+  module _ (ok : overPlace (viewOf (heldOf e)) ≡ 0) where
+    offset-held : capped (e .offset .magnitude) ≡ e .offset .magnitude
+    unfolding overPlace viewOf heldOf numberFrom
+    offset-held = capped-same (e .offset .magnitude) (over-none (leb (capped (e .offset .magnitude)) most) (leb (capped (e .size .magnitude)) most) ok .0)
+
+    size-held : capped (e .size .magnitude) ≡ e .size .magnitude
+    unfolding overPlace viewOf heldOf numberFrom
+    size-held = capped-same (e .size .magnitude) (over-none (leb (capped (e .offset .magnitude)) most) (leb (capped (e .size .magnitude)) most) ok .1)
+
+    view : viewOf (heldOf e) ≡ by-role
+    unfolding viewOf heldOf numberFrom
+    view =
+        λ j. record {
+          type = e .type;
+          name = nameText (nameRole (e .name));
+          filename = [];
+          offset = record { minus = e .offset .minus; magnitude = offset-held j };
+          size = record { minus = e .size .minus; magnitude = size-held j };
+          count = e .count;
+          recordSize = e .recordSize;
+        }
+
+-- ---- what is asked of an entry, asked of what is held of it
+
+pub record Turn (e : Entry) (h : HeldEntry) : Type 0 where
+  pub types : h .«ds_type» ≡ typeOf e
+  pub offsets : h .offset .magnitude ≡ start e
+  pub sizes : h .size .magnitude ≡ extent e
+  pub counts : h .count .magnitude ≡ countOf e
+  pub record-sizes : wholeIn (h .«record_size») ≡ recordSizeOf e
+  pub roles : roleOf (viewOf h) ≡ roleOf e
+  pub fits : numbersFit (viewOf h) ≡ numbersFit e
+  pub counted : isData (viewOf h) ≡ isData e
+
+pub turn-held : (e : Entry) → overPlace (viewOf (heldOf e)) ≡ 0 → Turn e (heldOf e)
+unfolding heldOf start extent wholeIn whole isData
+turn-held e ok =
+    record {
+      types = refl;
+      offsets = offset-held e ok;
+      sizes = size-held e ok;
+      counts = refl;
+      record-sizes = refl;
+      roles = ap roleOf (view e ok) ∙ same-role e;
+      fits = ap numbersFit (view e ok) ∙ same-fits e;
+      counted = ap isData (view e ok) ∙ same-counted;
+    }
+  where
+    same-counted : isData (by-role e) ≡ isData e
+    same-counted = refl
