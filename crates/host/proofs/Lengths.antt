@@ -5,7 +5,8 @@ use lib.ListN.{length, length-append, length-map}
 use Rattle.layout.specs.Answer.{Answer, accepted, refused, Reply, refusal, is}
 use Rattle.layout.specs.Records.{Span}
 use Rattle.layout.specs.Fields.{Value, integer, single, double, time, Position}
-use Rattle.words.specs.Words.{verdictWords, placeWords, valueWords, fieldWords, pointWords, pointDoubles, identityWords, sensingWords, orbitWords, clockWords, sizesWords, headerWords, identityTexts, headerTexts, directoryWords, directoryTexts}
+use Rattle.words.specs.Words.{verdictWords, placeWords, valueWords, fieldWords, pointWords, pointDoubles}
+use Rattle.tables.specs.Tables.{identityWords, sensingWords, orbitWords, clockWords, sizesWords, headerWords, identityTexts, headerTexts, directoryWords, directoryTexts}
 use Rattle.layout.specs.declared.MainHeader.{MainHeader}
 use Rattle.layout.specs.declared.Directory.{Directory}
 

@@ -3,12 +3,12 @@
 use layout::Directory;
 use layout::MainHeader;
 use layout::Verdict;
-use words::put_directory;
-use words::put_directory_texts;
+use tables::put_directory;
+use tables::put_directory_texts;
+use tables::put_header;
+use tables::put_header_texts;
 use words::put_doubles;
 use words::put_field;
-use words::put_header;
-use words::put_header_texts;
 use words::put_place;
 use words::put_point;
 use words::put_verdict;
@@ -21,7 +21,8 @@ ghost use Rattle.layout.specs.Rules.{verdict};
 ghost use Rattle.layout.specs.Answers.{verdictIs, headerFor, directoryFor};
 ghost use Rattle.layout.specs.Records.{sphPlace, recordPlace, partOf};
 ghost use Rattle.layout.specs.Fields.{fieldReply, pointReply};
-ghost use Rattle.words.specs.Words.{verdictWords, placeWords, fieldWords, pointWords, pointDoubles, headerWords, headerTexts, directoryWords, directoryTexts};
+ghost use Rattle.words.specs.Words.{verdictWords, placeWords, fieldWords, pointWords, pointDoubles};
+ghost use Rattle.tables.specs.Tables.{headerWords, headerTexts, directoryWords, directoryTexts};
 ghost use Rattle.host.specs.Lent.{OneRoom, TwoRooms};
 
 const WRITTEN: u32 = 0;

@@ -2,6 +2,7 @@
 use layout::Directory;
 use layout::Refusal;
 use layout::Verdict;
+use writing::name_length;
 use writing::put_byte;
 use writing::put_number;
 use writing::put_signed;
@@ -27,22 +28,6 @@ pub struct Listed {
     pub size: u64,
     pub count: u64,
     pub record_size: i64,
-}
-
-// How many bytes of the name that starts here come before its trailing blanks.
-fn name_length(names: &[u8], start: usize) -> usize
-    requires { ⌜ start + 28 ≤ length (now names) ⌝ }
-    ensures { λ r. ⌜ (r ≤ 28) × (trimmed (part (now (names .entry)) start 28) ≡ part (now (names .entry)) start r) ⌝ }
-{
-    let mut kept = 28;
-    while 0 < kept {
-        let last = kept - 1;
-        if names[start + last] != b' ' {
-            return kept;
-        }
-        kept = last;
-    }
-    0
 }
 
 // The name of an entry without its trailing blanks, and a blank.

@@ -1,10 +1,11 @@
-// Texts and numbers put into a lent buffer. A writer puts its text into `out` from the place `at` on, and answers the place behind it.
+// Names, texts and numbers put into a lent buffer. A writer puts its text into `out` from the place `at` on, and answers the place behind it.
 ghost use mathlib.Core.Path.{_≡_};
 ghost use mathlib.Core.List.{_∷_, _++_, []};
 ghost use Prim.Native.Nat.{ℕ, _+_, _≤_};
 ghost use lib.IntN.{natAbs};
 ghost use lib.ListN.{length};
-ghost use Rattle.layout.specs.Listing.{decimal, signedDecimal};
+ghost use Rattle.layout.specs.Bytes.{part};
+ghost use Rattle.layout.specs.Listing.{decimal, signedDecimal, trimmed};
 ghost use Rattle.writing.specs.Put.{Put};
 
 pub fn put_byte(out: &mut [u8], at: usize, byte: u8) -> usize
@@ -68,4 +69,20 @@ pub fn put_signed(out: &mut [u8], at: usize, number: i64, end: u8) -> usize
         return put_number(out, next, magnitude(number), end);
     }
     put_number(out, at, magnitude(number), end)
+}
+
+// How many bytes of the name that starts here come before its trailing blanks.
+pub fn name_length(names: &[u8], start: usize) -> usize
+    requires { ⌜ start + 28 ≤ length (now names) ⌝ }
+    ensures { λ r. ⌜ (r ≤ 28) × (trimmed (part (now (names .entry)) start 28) ≡ part (now (names .entry)) start r) ⌝ }
+{
+    let mut kept = 28;
+    while 0 < kept {
+        let last = kept - 1;
+        if names[start + last] != b' ' {
+            return kept;
+        }
+        kept = last;
+    }
+    0
 }

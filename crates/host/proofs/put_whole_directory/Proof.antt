@@ -3,7 +3,7 @@
 use native.Mathlib.Omega.{arith}
 use mathlib.Core.Path.{_≡_}
 use lib.ListN.{length, length-map}
-use Rattle.words.specs.Words.{directoryWords, directoryTexts}
+use Rattle.tables.specs.Tables.{directoryWords, directoryTexts}
 use Rattle.layout.specs.Answers.{verdictIs}
 use Rattle.host.proofs.Rooms.{first-short, second-short, both-written}
 use Rattle.host.proofs.Lengths.{directory-words, directory-texts}

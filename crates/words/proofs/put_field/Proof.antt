@@ -1,6 +1,10 @@
 -- `words::put_field` meets its contract, by the cases of the answer.
 -- Assumes nothing.
-use Rattle.writing.proofs.Puts.{then, spelled}
+use Prim.Native.Nat.{ℕ}
+use mathlib.Core.List.{List, _∷_}
+use mathlib.Core.Path.{_∙_, ap}
+use native.Mathlib.Omega.{arith}
+use Rattle.writing.proofs.Puts.{then, at-most, spelled}
 use Rattle.words.proofs.Laws.{field-words, no-field-words}
 use borrow.Author.Needs.{needs}
 use Rattle.words.proofs.put_field.Statement.{statement}
@@ -21,8 +25,20 @@ put-words-requires c κs = search needs
 enum-known-answer-2 : tie.Need-enum-known-answer-2
 enum-known-answer-2 c = search needs
 
-put-value-requires : tie.Need-put-value-requires
-put-value-requires c κs = search needs
+value-words-requires : tie.Need-value-words-requires
+value-words-requires c κs = search needs
+
+slice-aggregate-put-words-2 : tie.Need-slice-aggregate-put-words-2
+slice-aggregate-put-words-2 c = search needs
+
+put-words-requires-2 : tie.Need-put-words-requires-2
+put-words-requires-2 c κs = search needs
+
+slice-aggregate-put-words-3 : tie.Need-slice-aggregate-put-words-3
+slice-aggregate-put-words-3 c = search needs
+
+put-words-requires-3 : tie.Need-put-words-requires-3
+put-words-requires-3 c κs = search needs
 
 same-length : tie.Need-same-length
 same-length c = search needs
@@ -34,7 +50,9 @@ same-length-2 : tie.Need-same-length-2
 same-length-2 c = search needs
 
 returns-2 : tie.Need-returns-2
-returns-2 c = spelled (field-words (c .before .before .before .before .before .before .before .before .args .answer) (c .before .before .before .before .before .answer2 .given .0 .0) (c .before .before .before .before .before .answer2 .given .1)) (c .before .before .put-value .ensures)
+returns-2 c =
+    let put = then (c .before .before .before .before .before .before .before .put-words2 .ensures) (c .before .before .put-words3 .ensures) in
+    spelled (ap (λ (l : List ℕ). 0 ∷ 0 ∷ 0 ∷ l) (c .before .before .before .before .before .before .before .before .before .before .value-words .ensures) ∙ field-words (c .before .before .before .before .before .before .before .before .before .before .before .before .before .before .before .args .answer) (c .before .before .before .before .before .before .before .before .before .before .before .before .answer2 .given .0 .0) (c .before .before .before .before .before .before .before .before .before .before .before .before .answer2 .given .1)) (at-most 7 put (omega (arith, put .narrow, slice-aggregate-put-words-3 (c .before .before .before))))
 
 pub put-field-spec : {M : Type 1} → statement M
 put-field-spec =
@@ -45,7 +63,11 @@ put-field-spec =
     slice-aggregate-put-words
     put-words-requires
     enum-known-answer-2
-    put-value-requires
+    value-words-requires
+    slice-aggregate-put-words-2
+    put-words-requires-2
+    slice-aggregate-put-words-3
+    put-words-requires-3
     same-length
     returns
     same-length-2

@@ -1,0 +1,47 @@
+-- The words of each part of the main header.
+-- Assumes nothing.
+use Prim.Native.Nat.{ℕ, _^_, _<_}
+use mathlib.Core.Path.{_≡_, refl}
+use mathlib.Core.List.{List, [], _∷_, _++_, map}
+use lib.IntN.{ℤ}
+use lib.Signed.{mag}
+use mir.Syntax.{w64}
+use mir.Val.{toZ, ofZ}
+use mir.Facts.{toZ-ofZ}
+use Rattle.layout.specs.declared.Identity.{Identity}
+use Rattle.layout.specs.declared.Sensing.{Sensing}
+use Rattle.layout.specs.declared.Orbit.{Orbit}
+use Rattle.layout.specs.declared.Clock.{Clock}
+use Rattle.layout.specs.declared.Sizes.{Sizes}
+use Rattle.words.specs.Words.{word}
+use Rattle.tables.specs.Tables.{identityWords, sensingWords, orbitWords, clockWords, sizesWords}
+
+pub identity-put : (h : Identity) → h .«proc_stage» ∷ [] ≡ identityWords h
+unfolding identityWords
+identity-put h = refl
+
+-- a number with a sign is stored and read back as it was
+abbrev back : ℤ → ℤ
+back z = toZ w64 (ofZ w64 z)
+
+abbrev Small : ℤ → Type 0
+Small z = mag z < 2 ^ 63
+
+kept : {z : ℤ} → Small z → back z ≡ z
+kept h = toZ-ofZ {w = w64} (record { sfits = h })
+
+pub sensing-put : (h : Sensing) → Small (h .cycle) → Small (h .«rel_orbit») → Small (h .«abs_orbit») → _≡_ {A = List ℕ} ((h .phase ∷ []) ++ map word (back (h .cycle) ∷ back (h .«rel_orbit») ∷ back (h .«abs_orbit») ∷ [])) (sensingWords h)
+unfolding sensingWords
+sensing-put h a b c = rw (kept a, kept b, kept c)
+
+pub orbit-put : (h : Orbit) → Small (h .«delta_ut1») → Small (h .«x_position») → Small (h .«y_position») → Small (h .«z_position») → Small (h .«x_velocity») → Small (h .«y_velocity») → Small (h .«z_velocity») → _≡_ {A = List ℕ} (map word (back (h .«delta_ut1») ∷ back (h .«x_position») ∷ back (h .«y_position») ∷ back (h .«z_position») ∷ back (h .«x_velocity») ∷ back (h .«y_velocity») ∷ back (h .«z_velocity») ∷ [])) (orbitWords h)
+unfolding orbitWords
+orbit-put h a b c d e f g = rw (kept a, kept b, kept c, kept d, kept e, kept f, kept g)
+
+pub clock-put : (h : Clock) → Small (h .«sat_binary_time») → Small (h .«clock_step») → Small (h .«leap_sign») → _≡_ {A = List ℕ} (map word (back (h .«sat_binary_time») ∷ back (h .«clock_step») ∷ back (h .«leap_sign») ∷ []) ++ h .«leap_err» ∷ []) (clockWords h)
+unfolding clockWords
+clock-put h a b c = rw (kept a, kept b, kept c)
+
+pub sizes-put : (h : Sizes) → Small (h .«tot_size») → Small (h .«sph_size») → Small (h .«num_dsd») → Small (h .«dsd_size») → Small (h .«num_data_sets») → _≡_ {A = List ℕ} ((h .«product_err» ∷ []) ++ map word (back (h .«tot_size») ∷ back (h .«sph_size») ∷ back (h .«num_dsd») ∷ back (h .«dsd_size») ∷ back (h .«num_data_sets») ∷ [])) (sizesWords h)
+unfolding sizesWords
+sizes-put h a b c d e = rw (kept a, kept b, kept c, kept d, kept e)
