@@ -165,7 +165,7 @@ fn check_text(p: &[u8], dsds: usize, entries: usize) -> layout::Verdict
     requires { ⌜ Dsds (now p) dsds entries ⌝ }
     ensures { λ r. ⌜ ((n : ℕ) → verdictIs r ≡ (rule7 (now (p .entry)) n orElse rule8 (now (p .entry)) n)) ⌝ }
 {
-    let bad = text::first_bad_line(p, dsds);
+    let bad = sph::first_bad_line(p, dsds);
     if bad != dsds {
         return refuse(7, bad as u64, 128);
     }
@@ -215,7 +215,7 @@ fn check_places<'a>(
     if overlapping != entries {
         return refuse(13, offsets[overlapping], overlapping);
     }
-    let uncovered = sets::first_uncovered(offsets, sizes, entries, headers_end, length);
+    let uncovered = cover::first_uncovered(offsets, sizes, entries, headers_end, length);
     if uncovered != length {
         return refuse(14, uncovered, 128);
     }

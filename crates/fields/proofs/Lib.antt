@@ -1,4 +1,2 @@
 -- The laws that the proofs of this crate cite. Assumes nothing.
 pub mod Shapes
-pub mod Limits
-pub mod Points

@@ -27,8 +27,8 @@ use Rattle.text.specs.Numbers.{numberIn, wholeIn}
 use Rattle.text.proofs.Laws.{magnitude-test, whole-true}
 use Rattle.header.specs.Checks.{lengthRules, totalRules, rules1to6, HeadersFit}
 use Rattle.header.specs.declared.HeaderCheck.{HeaderCheck}
-use Rattle.header.proofs.Places.{total-at, sph-at, dsds-at, dsd-size-at, headers-end-at, entries-at}
-use Rattle.header.proofs.Values.{kept}
+use Rattle.values.proofs.Places.{total-at, sph-at, dsds-at, dsd-size-at, headers-end-at, entries-at}
+use Rattle.values.proofs.Values.{kept}
 
 -- ---- an i64 beside a number that is not negative
 

@@ -1,33 +1,25 @@
 // The reader for C and Rust: every public call, its answer written into rooms that the host lends. `include/ambrothel.h` declares them.
 // A room too short for the answer returns 1, and nothing is written.
-use layout::Directory;
-use layout::MainHeader;
-use layout::Verdict;
-use tables::put_directory;
-use tables::put_directory_texts;
-use tables::put_header;
-use tables::put_header_texts;
+use rooms::ROOM_TOO_SHORT;
+use rooms::WRITTEN;
+use rooms::put_part;
+use rooms::put_whole_directory;
+use rooms::put_whole_header;
 use words::put_doubles;
 use words::put_field;
 use words::put_place;
 use words::put_point;
 use words::put_verdict;
-use words::put_words;
-use writing::put_text;
 ghost use mathlib.Core.Path.{_≡_};
 ghost use mathlib.Core.List.{[], _∷_};
 ghost use lib.ListN.{length};
 ghost use Rattle.layout.specs.Rules.{verdict};
-ghost use Rattle.layout.specs.Answers.{verdictIs, headerFor, directoryFor};
+ghost use Rattle.layout.specs.Answers.{headerFor, directoryFor};
 ghost use Rattle.layout.specs.Records.{sphPlace, recordPlace, partOf};
 ghost use Rattle.layout.specs.Fields.{fieldReply, pointReply};
 ghost use Rattle.words.specs.Words.{verdictWords, placeWords, fieldWords, pointWords, pointDoubles};
 ghost use Rattle.tables.specs.Tables.{headerWords, headerTexts, directoryWords, directoryTexts};
-ghost use Rattle.host.specs.Lent.{OneRoom, TwoRooms};
-
-const WRITTEN: u32 = 0;
-
-const ROOM_TOO_SHORT: u32 = 1;
+ghost use Rattle.rooms.specs.Lent.{OneRoom, TwoRooms};
 
 #[no_mangle]
 pub extern "C" fn ambrothel_judge(p: &[u8], words: &mut [u64]) -> u32
@@ -40,26 +32,6 @@ pub extern "C" fn ambrothel_judge(p: &[u8], words: &mut [u64]) -> u32
     WRITTEN
 }
 
-// The directory's words and texts, where both have room.
-fn put_whole_directory(
-    verdict: Verdict,
-    directory: Directory,
-    words: &mut [u64],
-    texts: &mut [u8],
-) -> u32
-    ensures { λ r. ⌜ TwoRooms (directoryWords (verdictIs verdict) directory) (now (words .entry)) (now (words .exit)) (directoryTexts directory) (now (texts .entry)) (now (texts .exit)) r ⌝ }
-{
-    if words.len() < 644 {
-        return ROOM_TOO_SHORT;
-    }
-    if texts.len() < 11520 {
-        return ROOM_TOO_SHORT;
-    }
-    put_directory(words, verdict, directory);
-    put_directory_texts(texts, directory);
-    WRITTEN
-}
-
 #[no_mangle]
 pub extern "C" fn ambrothel_open_directory(p: &[u8], words: &mut [u64], texts: &mut [u8]) -> u32
     ensures { λ r. ⌜ TwoRooms (directoryWords (verdict (now (p .entry))) (directoryFor (verdict (now (p .entry))) (now (p .entry)))) (now (words .entry)) (now (words .exit)) (directoryTexts (directoryFor (verdict (now (p .entry))) (now (p .entry)))) (now (texts .entry)) (now (texts .exit)) r ⌝ }
@@ -68,26 +40,6 @@ pub extern "C" fn ambrothel_open_directory(p: &[u8], words: &mut [u64], texts: &
     let verdict = answer.verdict;
     let directory = answer.directory;
     put_whole_directory(verdict, directory, words, texts)
-}
-
-// The main header's words and texts, where both have room.
-fn put_whole_header(
-    verdict: Verdict,
-    header: MainHeader,
-    words: &mut [u64],
-    texts: &mut [u8],
-) -> u32
-    ensures { λ r. ⌜ TwoRooms (headerWords (verdictIs verdict) header) (now (words .entry)) (now (words .exit)) (headerTexts header) (now (texts .entry)) (now (texts .exit)) r ⌝ }
-{
-    if words.len() < 25 {
-        return ROOM_TOO_SHORT;
-    }
-    if texts.len() < 289 {
-        return ROOM_TOO_SHORT;
-    }
-    put_header(words, verdict, header);
-    put_header_texts(texts, header);
-    WRITTEN
 }
 
 #[no_mangle]
@@ -108,22 +60,6 @@ pub extern "C" fn ambrothel_sph_place(p: &[u8], words: &mut [u64]) -> u32
         return ROOM_TOO_SHORT;
     }
     put_place(words, product::sph_place(p));
-    WRITTEN
-}
-
-// The part and its length, where both have room.
-fn put_part(part: &[u8], words: &mut [u64], bytes: &mut [u8]) -> u32
-    ensures { λ r. ⌜ TwoRooms (length (now (part .entry)) ∷ []) (now (words .entry)) (now (words .exit)) (now (part .entry)) (now (bytes .entry)) (now (bytes .exit)) r ⌝ }
-{
-    if words.len() < 1 {
-        return ROOM_TOO_SHORT;
-    }
-    if bytes.len() < part.len() {
-        return ROOM_TOO_SHORT;
-    }
-    let length = [part.len() as u64];
-    put_words(words, 0, &length);
-    put_text(bytes, 0, part);
     WRITTEN
 }
 

@@ -14,7 +14,7 @@ use Rattle.layout.specs.Bytes.{part, byteAt}
 use Rattle.layout.specs.Text.{Class, exactly, fits, literal}
 use Rattle.layout.specs.Search.{find}
 use Rattle.text.specs.Blanks.{notBlank}
-use Rattle.text.specs.LineEnds.{fails}
+use Rattle.text.specs.Runs.{fails}
 use Rattle.lines.specs.Table.{firstBad, differs}
 
 -- the last test of several

@@ -1,4 +1,1 @@
-pub mod Roles
-pub mod States
-pub mod Described
 pub mod Opened

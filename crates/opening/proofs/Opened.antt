@@ -19,7 +19,8 @@ use Rattle.header.specs.Checks.{rules1to6, HeaderChecked}
 use Rattle.header.specs.declared.HeaderCheck.{HeaderCheck}
 use Rattle.directory.specs.Checks.{rules7to14, setsOf, Headers, Listed}
 use Rattle.directory.specs.declared.Sets.{Sets}
-use Rattle.opening.specs.Opening.{Laid, Judged, closed, Opened}
+use Rattle.variable.specs.Roles.{Laid}
+use Rattle.opening.specs.Opening.{Judged, closed, Opened}
 use Rattle.opening.specs.declared.Opening.{Opening}
 
 module _ (b : List ℕ) where

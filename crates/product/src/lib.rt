@@ -59,7 +59,7 @@ pub fn header_values(p: &[u8]) -> HeaderAnswer
     }
     HeaderAnswer {
         verdict: Verdict::Accepted,
-        header: header::read_header(p),
+        header: values::read_header(p),
     }
 }
 
@@ -148,7 +148,7 @@ pub fn point_at(
 {
     match record_place(p, entry, asked) {
         Place::At { place, length } => {
-            fields::point_in(
+            points::point_in(
                 part_at(p, place, length),
                 entry,
                 latitude,

@@ -25,15 +25,14 @@ use Rattle.layout.proofs.Faults.{Fixed, Variable, NumbersFit, variable-T, sum-r
 use Rattle.layout.proofs.Sound.{Sound, sound, no-count, length-directory, rule2-sound}
 use Rattle.directory.specs.Checks.{setsOf}
 use Rattle.directory.specs.declared.Sets.{Sets}
-use Rattle.opening.specs.Opening.{Laid}
-use Rattle.opening.proofs.States.{roles-at, counts-at, sizes-at, offsets-at, is-variable, role-kind, states-entry, states-missing}
-use Rattle.opening.proofs.Roles.{role-in, role-below, role-above}
-use Rattle.opening.proofs.Described.{held-entries, most-entries, at-least, is-true}
-use Rattle.opening.proofs.Described as described
+use Rattle.variable.proofs.States.{roles-at, counts-at, sizes-at, offsets-at, is-variable, role-kind, states-entry, states-missing}
+use Rattle.variable.proofs.Roles.{role-in, role-below, role-above}
+use Rattle.variable.proofs.Described.{held-entries, most-entries, at-least, is-true}
+use Rattle.variable.proofs.Described as described
 use Rattle.states.specs.States.{cap, statesFrom, found}
 use Rattle.states.specs.declared.Found.the-variants.{At, Nothing}
 use Rattle.states.proofs.Laws.{states-of, found-exact}
-use Rattle.opening.specs.Roles.{roleWithin}
+use Rattle.variable.specs.Roles.{roleWithin, Laid}
 use Rattle.records.specs.Open.{Open, placeIn}
 
 take-replicate : (n j r : ℕ) → j ≤ n → take j (replicate n r) ≡ replicate j r

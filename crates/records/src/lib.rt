@@ -36,7 +36,7 @@ fn place_of_unequal(p: &[u8], sets: Sets, entry: usize, kind: u8, asked: usize) 
 {
     let entries = sets.entries;
     let roles = sets.roles;
-    let i = opening::first_role(&roles, 0, entries, 5, 5);
+    let i = variable::first_role(&roles, 0, entries, 5, 5);
     let offsets = sets.offsets;
     let counts = sets.counts;
     let start = offsets[i] as usize;

@@ -7,16 +7,16 @@ use mathlib.Core.Logic.{_⊎_, inl, inr, ⊎-elim}
 use mathlib.Core.Path.{_≡_, refl, sym, ap, _∙_}
 use native.Mathlib.Omega.{arith}
 use native.Mathlib.Nat.{sub-zero}
-use lib.Dec.{T, leb, ltb, eqb}
+use lib.Dec.{leb, ltb, eqb}
 use lib.ListN.{length, getD}
 use borrow.Author.Count.{below-more}
 use borrow.Author.Tests.{lt-ltb, le-ltb, le-leb, lt-leb, eq-eqb, ne-eqb, ltb-true, ltb-false, leb-true, not-true, not-false}
-use Rattle.layout.specs.Answer.{Answer, accepted, refused, none, need}
-use Rattle.layout.specs.Search.{first, some, find}
-use Rattle.layout.specs.Entries.{Entry, at, holds, shares}
-use Rattle.layout.specs.Rules.{setInside, rule12At, sharesAt, rule13At, holdsAt, rule14At}
-use Rattle.layout.proofs.Laws.{lt-or-le, need-accepts, some-T, some-same, some-step, some-end, first-same, first-step, first-skip, find-at, find-before}
-use Rattle.sets.specs.Sets.{isInside, overlaps, overlapsAt, largest, Between, Clear, covers, coversAt, isCovered, rule12By, rule13By, rule14By, Holding, Held, Outside, Overlapping, Uncovered}
+use Rattle.layout.specs.Answer.{Answer, accepted, refused, need}
+use Rattle.layout.specs.Search.{first, some}
+use Rattle.layout.specs.Entries.{Entry, at, shares}
+use Rattle.layout.specs.Rules.{setInside, rule12At, sharesAt, rule13At}
+use Rattle.layout.proofs.Laws.{lt-or-le, some-same, some-step, some-end, first-same, first-step}
+use Rattle.sets.specs.Sets.{isInside, overlaps, overlapsAt, largest, Between, Clear, rule12By, rule13By, Held, Outside, Overlapping}
 
 -- ---- one set, and two, by their numbers
 
@@ -24,7 +24,7 @@ same : (x y : Bool) → (x ≡ true → y ≡ true) → (x ≡ false → y ≡ f
 same true y t f = sym (t refl)
 same false y t f = sym (f refl)
 
-ltb-same : (a b c d : ℕ) → (a < b → c < d) → (b ≤ a → d ≤ c) → ltb a b ≡ ltb c d
+pub ltb-same : (a b c d : ℕ) → (a < b → c < d) → (b ≤ a → d ≤ c) → ltb a b ≡ ltb c d
 ltb-same a b c d t f = same (ltb a b) (ltb c d) (λ e. lt-ltb c d (t (ltb-true a b e))) (λ e. le-ltb c d (f (ltb-false a b e)))
 
 ltb-not : (a b c d : ℕ) → (a < b → d < c) → (b ≤ a → c ≤ d) → ltb a b ≡ not (leb c d)
@@ -97,33 +97,6 @@ module _ (a s low high : ℕ) where
 pub record Lower (offsets sizes : List ℕ) (i low high : ℕ) : Type 0 where
   pub each : (j : ℕ) → j < i → Between low high (getD offsets j 0) (getD sizes j 0)
 
-module _ (offset size p : ℕ) where
-  pub holds-later : p < offset → false ≡ covers p offset size
-  unfolding covers
-  holds-later h = rw (lt-leb offset p h, and-false)
-
-  pub holds-rest : offset ≤ p → ltb (p - offset) size ≡ covers p offset size
-  unfolding covers
-  holds-rest h = go (lt-or-le 0 size)
-    where
-      go : (0 < size) ⊎ (size ≤ 0) → ltb (p - offset) size ≡ (ltb 0 size && (leb offset p && ltb p (offset + size)))
-      go (inl l) = rw (lt-ltb 0 size l, le-leb offset p h) (ltb-same (p - offset) size p (offset + size) (λ g. omega arith) (λ g. omega arith))
-      go (inr l) = rw (le-ltb 0 size l) (le-ltb (p - offset) size (omega arith))
-
-  holds-between : T (covers p offset size) → (offset ≤ p) × (p < offset + size)
-  unfolding covers
-  holds-between t = go (lt-or-le p offset) (lt-or-le (offset + size) (p + 1)) t
-    where
-      go : (p < offset) ⊎ (offset ≤ p) → (offset + size < p + 1) ⊎ (p + 1 ≤ offset + size) → T (ltb 0 size && (leb offset p && ltb p (offset + size))) → (offset ≤ p) × (p < offset + size)
-      go (inl h) m u = absurd (rw (lt-leb offset p h, and-false) at u)
-      go (inr h) (inl l) u = absurd (rw (le-ltb p (offset + size) (omega arith), and-false, and-false) at u)
-      go (inr h) (inr l) u = (h, omega arith)
-
--- a set holds each byte from its first to its last
-holds-each : (offset size k : ℕ) → offset ≤ k → k < offset + size → T (covers k offset size)
-unfolding covers
-holds-each offset size k l u = rw (lt-ltb 0 size (omega arith), le-leb offset k l, lt-ltb k (offset + size) u) tt
-
 -- ---- a search for a refusal, step by step: what is left of it from k on is the whole
 
 module _ (f : ℕ → Answer) (i n k : ℕ) (so : first f i (n - i) ≡ first f k (n - k)) where
@@ -150,7 +123,7 @@ module _ (t : ℕ → Bool) (n k : ℕ) (so : some t 0 n ≡ some t k (n - k)) w
   some-none h = let q : n - k ≡ 0 = omega arith in so ∙ rw q
 
 -- none of the n numbers from i on passes
-some-false : (t : ℕ → Bool) (i n : ℕ) → ((k : ℕ) → i ≤ k → k < i + n → t k ≡ false) → some t i n ≡ false
+pub some-false : (t : ℕ → Bool) (i n : ℕ) → ((k : ℕ) → i ≤ k → k < i + n → t k ≡ false) → some t i n ≡ false
 unfolding some
 some-false t i zero h = refl
 some-false t i (suc n) h = rw (h i (omega arith) (omega arith), some-false t (suc i) n (λ k l u. h k (omega arith) (omega arith)))
@@ -170,14 +143,6 @@ module _ (ds : List Entry) (offsets sizes : List ℕ) (held : Held ds offsets si
   unfolding rule13At rule13By
   same13 i l = rw (held .starts i l, some-same (sharesAt ds i) (overlapsAt offsets sizes i) 0 i (λ j v u. shares-same i j l (omega arith)))
 
-  holds-same : (p i : ℕ) → i < length ds → holdsAt ds p i ≡ coversAt offsets sizes p i
-  unfolding holdsAt holds coversAt covers
-  holds-same p i l = rw (held .filled i l, held .starts i l, held .extents i l)
-
-  same14 : (p : ℕ) → rule14At ds p ≡ rule14By offsets sizes (length ds) p
-  unfolding rule14At rule14By isCovered
-  same14 p = rw (some-same (holdsAt ds p) (coversAt offsets sizes p) 0 (length ds) (λ i v u. holds-same p i (omega arith)))
-
 module _ (offsets sizes : List ℕ) (entries r : ℕ) where
   pub outside : (h n : ℕ) → r ≤ entries → first (rule12By offsets sizes h n) 0 (entries - 0) ≡ need (eqb r entries) 12 (getD offsets r 0) r → Outside offsets sizes entries h n r
   outside h n l e = record {
@@ -189,12 +154,6 @@ module _ (offsets sizes : List ℕ) (entries r : ℕ) where
   overlapping l e = record {
     within = l;
     answer = λ ds held q. first-same (rule13At ds) (rule13By offsets sizes) 0 entries (λ k v u. same13 ds offsets sizes held k (omega arith)) ∙ rw sub-zero at e;
-  }
-
-  pub uncovered : (h n : ℕ) → r ≤ n → first (rule14By offsets sizes entries) h (n - h) ≡ need (eqb r n) 14 r none → Uncovered offsets sizes entries h n r
-  uncovered h n l e = record {
-    within = l;
-    answer = λ ds held q. first-same (rule14At ds) (rule14By offsets sizes entries) h (n - h) (λ k v u. same14 ds offsets sizes held k ∙ rw q) ∙ e;
   }
 
 -- ---- each rule at one entry, by its test
@@ -229,38 +188,3 @@ module _ (offsets sizes : List ℕ) where
           below-more _ i (λ j u. let w = lower .each j u in record { starts = λ v. omega (arith, w .starts v, m .0); ends = λ v x. omega (arith, w .ends v (omega (arith, n .0)), n .0) })
           (record { starts = m .1; ends = n .1 });
     }
-
-  -- a search for a set that holds p found one; the two from f on and before f found none
-  pub holding-found : (n p f m r : ℕ) → f ≤ m → m ≤ n → r ≡ find (coversAt offsets sizes p) f (m - f) → r < m → Holding offsets sizes n p r
-  unfolding coversAt
-  holding-found n p f m r l u e h = record {
-    within = omega arith;
-    found = λ _. holds-between (getD offsets r 0) (getD sizes r 0) p (rw e (find-at (coversAt offsets sizes p) f (m - f) (omega arith)));
-    missed = λ q. absurd (omega arith);
-  }
-
-  pub holding-none : (n p f r q : ℕ) → r ≡ find (coversAt offsets sizes p) f (n - f) → n ≤ r → q ≡ find (coversAt offsets sizes p) 0 (f - 0) → f ≤ q → Holding offsets sizes n p n
-  unfolding isCovered
-  holding-none n p f r q e h d g = record {
-    within = omega arith;
-    found = λ q. absurd (omega arith);
-    missed = λ _. some-false (coversAt offsets sizes p) 0 n (λ k w u. ⊎-elim
-        (λ v. find-before (coversAt offsets sizes p) 0 (f - 0) k (omega arith) (omega arith))
-        (λ v. find-before (coversAt offsets sizes p) f (n - f) k v (omega arith)) (lt-or-le k f));
-  }
-
-  pub byte-uncovered : (n p : ℕ) → isCovered offsets sizes n p ≡ false → rule14By offsets sizes n p ≡ refused 14 p none
-  unfolding rule14By
-  byte-uncovered n p e = rw e
-
-  byte-covered : (n p : ℕ) → T (isCovered offsets sizes n p) → rule14By offsets sizes n p ≡ accepted
-  unfolding rule14By
-  byte-covered n p t = need-accepts (isCovered offsets sizes n p) 14 p none .1 t
-
-  -- what is left of the search for a byte in no set, behind the rest of a set that holds p or a part of it
-  pub jump : (entries h n p i : ℕ) → first (rule14By offsets sizes entries) h (n - h) ≡ first (rule14By offsets sizes entries) p (n - p) → i < entries → getD offsets i 0 ≤ p
-      → (j : ℕ) → p ≤ j → j ≤ n → j ≤ getD offsets i 0 + getD sizes i 0 → first (rule14By offsets sizes entries) h (n - h) ≡ first (rule14By offsets sizes entries) j (n - j)
-  unfolding isCovered coversAt
-  jump entries h n p i so e o j l u v =
-      so ∙ first-skip (rule14By offsets sizes entries) p j n l u
-      (λ k x y. byte-covered entries k (some-T (coversAt offsets sizes k) entries .1 (i, e, holds-each (getD offsets i 0) (getD sizes i 0) k (omega arith) (omega arith))))

@@ -1,4 +1,4 @@
--- Rules 12 to 14 over arrays of offsets and sizes: the tests of one set and of two by their numbers, and what the searches answer of any directory
+-- Rules 12 and 13 over arrays of offsets and sizes: the tests of one set and of two by their numbers, and what the searches answer of any directory
 -- that the arrays hold.
 -- Assumes nothing.
 use Prim.Native.Nat.{ℕ, _+_, _-_, _^_, _≤_, _<_}
@@ -7,10 +7,10 @@ use mathlib.Core.List.{List}
 use mathlib.Core.Path.{_≡_}
 use lib.Dec.{T, leb, ltb, eqb}
 use lib.ListN.{length, getD}
-use Rattle.layout.specs.Answer.{Answer, none, need, _⇒_}
+use Rattle.layout.specs.Answer.{Answer, need, _⇒_}
 use Rattle.layout.specs.Search.{first, some}
 use Rattle.layout.specs.Entries.{Entry, at, start, extent, nonEmpty}
-use Rattle.layout.specs.Rules.{rule12At, rule13At, rule14At}
+use Rattle.layout.specs.Rules.{rule12At, rule13At}
 
 -- ---- sets by their numbers
 
@@ -25,26 +25,12 @@ overlaps a s b t = ltb 0 s && (ltb 0 t && (ltb a (b + t) && ltb b (a + s)))
 unfoldable pub overlapsAt : List ℕ → List ℕ → ℕ → ℕ → Bool
 overlapsAt offsets sizes i j = overlaps (getD offsets i 0) (getD sizes i 0) (getD offsets j 0) (getD sizes j 0)
 
--- a set holds the byte p
-unfoldable pub covers : ℕ → ℕ → ℕ → Bool
-covers p offset size = ltb 0 size && (leb offset p && ltb p (offset + size))
-
-unfoldable pub coversAt : List ℕ → List ℕ → ℕ → ℕ → Bool
-coversAt offsets sizes p i = covers p (getD offsets i 0) (getD sizes i 0)
-
--- one of the sets of n entries holds the byte p
-unfoldable pub isCovered : List ℕ → List ℕ → ℕ → ℕ → Bool
-isCovered offsets sizes n p = some (coversAt offsets sizes p) 0 n
-
--- the rules at one entry or one byte, by the arrays
+-- the rules at one entry, by the arrays
 unfoldable pub rule12By : List ℕ → List ℕ → ℕ → ℕ → ℕ → Answer
 rule12By offsets sizes h n i = need (isInside h n (getD offsets i 0) (getD sizes i 0)) 12 (getD offsets i 0) i
 
 unfoldable pub rule13By : List ℕ → List ℕ → ℕ → Answer
 rule13By offsets sizes i = need (not (some (overlapsAt offsets sizes i) 0 i)) 13 (getD offsets i 0) i
-
-unfoldable pub rule14By : List ℕ → List ℕ → ℕ → ℕ → Answer
-rule14By offsets sizes n p = need (isCovered offsets sizes n p) 14 p none
 
 -- ---- what the searches answer
 
@@ -61,12 +47,6 @@ pub record Between (low high offset size : ℕ) : Type 0 where
 unfoldable pub Clear : ℕ → ℕ → ℕ → ℕ → Type 0
 Clear low high offset size = (b t : ℕ) → Between low high b t → overlaps offset size b t ≡ false
 
--- r is an entry whose set holds the byte p, or the number n of entries where none does
-pub record Holding (offsets sizes : List ℕ) (n p r : ℕ) : Type 0 where
-  pub within : r ≤ n
-  pub found : r < n → (getD offsets r 0 ≤ p) × (p < getD offsets r 0 + getD sizes r 0)
-  pub missed : n ≤ r → isCovered offsets sizes n p ≡ false
-
 -- the arrays hold the offsets and sizes of a directory in which only entries with a set have a size, as rules 8 and 10 demand
 pub record Held (ds : List Entry) (offsets sizes : List ℕ) : Type 0 where
   pub starts : (i : ℕ) → i < length ds → getD offsets i 0 ≡ start (at ds i)
@@ -82,8 +62,3 @@ pub record Outside (offsets sizes : List ℕ) (entries h n r : ℕ) : Type 0 whe
 pub record Overlapping (offsets sizes : List ℕ) (entries r : ℕ) : Type 0 where
   pub within : r ≤ entries
   pub answer : (ds : List Entry) → Held ds offsets sizes → length ds ≡ entries → first (rule13At ds) 0 entries ≡ need (eqb r entries) 13 (getD offsets r 0) r
-
--- r is the byte that rule 14 refuses, or the length n
-pub record Uncovered (offsets sizes : List ℕ) (entries h n r : ℕ) : Type 0 where
-  pub within : r ≤ n
-  pub answer : (ds : List Entry) → Held ds offsets sizes → length ds ≡ entries → first (rule14At ds) h (n - h) ≡ need (eqb r n) 14 r none

@@ -2,6 +2,4 @@ pub mod Tests
 pub mod Runs
 pub mod Parts
 pub mod Numbers
-pub mod LineEnds
-pub mod BadLines
 pub mod Laws

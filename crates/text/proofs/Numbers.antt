@@ -20,7 +20,7 @@ use Rattle.layout.specs.Bytes.{part, byteAt}
 use Rattle.layout.specs.Text.{digit, fits, digits, numberOf}
 use Rattle.layout.specs.Search.{some}
 use Rattle.text.specs.Blanks.{notBlank}
-use Rattle.text.specs.LineEnds.{fails}
+use Rattle.text.specs.Runs.{fails}
 use Rattle.text.specs.Numbers.{capped, withByte, numberIn, wholeIn}
 use Rattle.text.specs.declared.Number.{Number}
 use Rattle.text.proofs.Parts.{part-cons, part-end}

@@ -11,7 +11,7 @@ use Rattle.layout.specs.Bytes.{byteAt}
 use Rattle.layout.specs.Text.{digit, fits}
 use Rattle.layout.proofs.Laws.{and-T}
 use Rattle.text.specs.Blanks.{notBlank}
-use Rattle.text.specs.LineEnds.{fails}
+use Rattle.text.specs.Runs.{fails}
 
 not-not : (u : Bool) → u ≡ not (not u)
 not-not true = refl

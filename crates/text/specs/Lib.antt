@@ -1,4 +1,3 @@
 pub mod Blanks
 pub mod Runs
 pub mod Numbers
-pub mod LineEnds

@@ -1,19 +1,15 @@
-// Header text (document 01, "Header text"): blanks, decimal numbers and the lines of the SPH, read at a place of the lent bytes.
+// Header text (document 01, "Header text"): runs of blanks, plain bytes and digits, and decimal numbers, read at a place of the lent bytes.
 ghost use mathlib.Core.Path.{_≡_};
 ghost use Prim.Native.Nat.{ℕ, _+_, _*_, _-_, _^_, _<_, _≤_};
 ghost use mathlib.Core.Bool.{not};
-ghost use lib.Dec.{T, eqb};
+ghost use lib.Dec.{T};
 ghost use lib.ListN.{length};
-ghost use Rattle.layout.specs.Answer.{need};
 ghost use Rattle.layout.specs.Bytes.{part, byteAt};
-ghost use Rattle.layout.specs.Rules.{rule7At};
-ghost use Rattle.layout.specs.Search.{some, find, first};
-ghost use Rattle.layout.specs.Sph.{ended, blanks, unquoted, quoted, value, keyword, line};
+ghost use Rattle.layout.specs.Search.{some, find};
 ghost use Rattle.layout.specs.Text.{plain, digit, fits, digits};
 ghost use Rattle.text.specs.Blanks.{notBlank};
-ghost use Rattle.text.specs.Runs.{Skipped};
+ghost use Rattle.text.specs.Runs.{fails, Skipped};
 ghost use Rattle.text.specs.Numbers.{capped, withByte, numberIn, wholeIn};
-ghost use Rattle.text.specs.LineEnds.{inKeyword, fails, Ended};
 
 // Each run of bytes of one class has three functions. `.._in` tests some bytes as a whole, without an exit, so that they are tested side by side;
 // `.._blocks` goes over whole blocks with it, the last of which ends with the run, and answers a place up to which all is good; and the search
@@ -67,7 +63,7 @@ pub fn first_not_blank(p: &[u8], from: usize, to: usize) -> usize
 }
 
 // A byte of q or c: 32 to 126, never 34.
-fn is_plain(x: u8) -> bool
+pub fn is_plain(x: u8) -> bool
     ensures { λ r. ⌜ r ≡ fits plain x ⌝ }
 {
     ((32 <= x) & (x <= 126)) & (x != 34)
@@ -168,61 +164,6 @@ pub fn first_not_digit(p: &[u8], from: usize, to: usize) -> usize
     let mut i = digit_blocks(p, from, to);
     while i < to {
         if !is_digit(p[i]) {
-            return i;
-        }
-        i += 1;
-    }
-    to
-}
-
-// A byte of a keyword behind its first.
-fn in_keyword(x: u8) -> bool
-    ensures { λ r. ⌜ r ≡ inKeyword x ⌝ }
-{
-    ((65 <= x) & (x <= 90)) | (((48 <= x) & (x <= 57)) | (x == 95))
-}
-
-fn keyword_in(p: &[u8], at: usize, n: usize) -> bool
-    requires { ⌜ at + n ≤ length (now p) ⌝ }
-    ensures { λ r. ⌜ r ≡ not (some (fails inKeyword (now (p .entry))) at n) ⌝ }
-{
-    let mut all = true;
-    let mut i = 0;
-    while i < n {
-        all = all & in_keyword(p[at + i]);
-        i += 1;
-    }
-    all
-}
-
-fn keyword_blocks(p: &[u8], from: usize, to: usize) -> usize
-    requires { ⌜ (from ≤ to) × (to ≤ length (now p)) ⌝ }
-    ensures { λ r. ⌜ Skipped (fails inKeyword (now (p .entry))) from to r ⌝ }
-{
-    if to - from < 8 {
-        return from;
-    }
-    let mut i = from;
-    while 8 < to - i {
-        if !keyword_in(p, i, 8) {
-            return i;
-        }
-        i += 8;
-    }
-    if keyword_in(p, to - 8, 8) {
-        return to;
-    }
-    i
-}
-
-// The first place in `from..to` whose byte is not of a keyword, or `to`.
-fn first_not_in_keyword(p: &[u8], from: usize, to: usize) -> usize
-    requires { ⌜ (from ≤ to) × (to ≤ length (now p)) ⌝ }
-    ensures { λ r. ⌜ r ≡ find (fails inKeyword (now (p .entry))) from (to - from) ⌝ }
-{
-    let mut i = keyword_blocks(p, from, to);
-    while i < to {
-        if !in_keyword(p[i]) {
             return i;
         }
         i += 1;
@@ -362,120 +303,4 @@ pub fn number_at(p: &[u8], at: usize, width: usize) -> Number
         minus: p[at] == 45,
         magnitude: magnitude,
     }
-}
-
-// The tests of what stands in `at..to`, the rest of the line that begins at `start`: each answers the place behind the line's byte 10, or `start`.
-
-// Only byte 10 follows.
-fn last_end(p: &[u8], start: usize, at: usize, to: usize) -> usize
-    requires { ⌜ (start ≤ at) × (at ≤ to) × (to ≤ length (now p)) ⌝ }
-    ensures { λ r. ⌜ Ended ended (now (p .entry)) start at to r ⌝ }
-{
-    if to <= at {
-        return start;
-    }
-    if p[at] != 10 {
-        return start;
-    }
-    at + 1
-}
-
-// Blanks, and byte 10.
-fn blanks_end(p: &[u8], start: usize, at: usize, to: usize) -> usize
-    requires { ⌜ (start ≤ at) × (at ≤ to) × (to ≤ length (now p)) ⌝ }
-    ensures { λ r. ⌜ Ended blanks (now (p .entry)) start at to r ⌝ }
-{
-    let end = first_not_blank(p, at, to);
-    last_end(p, start, end, to)
-}
-
-// Bytes 32 to 126 without 34, and byte 10.
-fn unquoted_end(p: &[u8], start: usize, at: usize, to: usize) -> usize
-    requires { ⌜ (start ≤ at) × (at ≤ to) × (to ≤ length (now p)) ⌝ }
-    ensures { λ r. ⌜ Ended unquoted (now (p .entry)) start at to r ⌝ }
-{
-    let end = first_not_plain(p, at, to);
-    last_end(p, start, end, to)
-}
-
-// The rest of a q of any length, and byte 10.
-fn quoted_end(p: &[u8], start: usize, at: usize, to: usize) -> usize
-    requires { ⌜ (start ≤ at) × (at ≤ to) × (to ≤ length (now p)) ⌝ }
-    ensures { λ r. ⌜ Ended quoted (now (p .entry)) start at to r ⌝ }
-{
-    let quote = first_not_plain(p, at, to);
-    if to <= quote {
-        return start;
-    }
-    if p[quote] != 34 {
-        return start;
-    }
-    last_end(p, start, quote + 1, to)
-}
-
-// A value, and byte 10.
-fn value_end(p: &[u8], start: usize, at: usize, to: usize) -> usize
-    requires { ⌜ (start ≤ at) × (at ≤ to) × (to ≤ length (now p)) ⌝ }
-    ensures { λ r. ⌜ Ended value (now (p .entry)) start at to r ⌝ }
-{
-    if to <= at {
-        return start;
-    }
-    let x = p[at];
-    if x == 34 {
-        return quoted_end(p, start, at + 1, to);
-    }
-    if !is_plain(x) {
-        return start;
-    }
-    unquoted_end(p, start, at + 1, to)
-}
-
-// The rest of a keyword, `=`, a value, and byte 10.
-fn keyword_end(p: &[u8], start: usize, at: usize, to: usize) -> usize
-    requires { ⌜ (start ≤ at) × (at ≤ to) × (to ≤ length (now p)) ⌝ }
-    ensures { λ r. ⌜ Ended keyword (now (p .entry)) start at to r ⌝ }
-{
-    let equals = first_not_in_keyword(p, at, to);
-    if to <= equals {
-        return start;
-    }
-    if p[equals] != 61 {
-        return start;
-    }
-    value_end(p, start, equals + 1, to)
-}
-
-// The place behind the byte 10 of the line that begins at `from`, if it is good and ends before `to`; else `from`.
-pub fn line_end(p: &[u8], from: usize, to: usize) -> usize
-    requires { ⌜ (from < to) × (to ≤ length (now p)) ⌝ }
-    ensures { λ r. ⌜ Ended line (now (p .entry)) from from to r ⌝ }
-{
-    let x = p[from];
-    if x == 32 {
-        return blanks_end(p, from, from + 1, to);
-    }
-    if x < 65 {
-        return from;
-    }
-    if 90 < x {
-        return from;
-    }
-    keyword_end(p, from, from + 1, to)
-}
-
-// The first byte of the first bad or unended line of the SPH before its DSDs, which begin at `to`; or `to` (rule 7).
-pub fn first_bad_line(p: &[u8], to: usize) -> usize
-    requires { ⌜ (1247 ≤ to) × (to ≤ length (now p)) ⌝ }
-    ensures { λ r. ⌜ first (rule7At (part (now (p .entry)) 1247 (to - 1247))) 0 (to - 1247) ≡ need (eqb r to) 7 r 128 ⌝ }
-{
-    let mut start = 1247;
-    while start < to {
-        let end = line_end(p, start, to);
-        if end == start {
-            return start;
-        }
-        start = end;
-    }
-    to
 }

@@ -77,20 +77,24 @@ fn show_entry(words: &[u64], texts: &[u8], i: usize)
     print_numbered(b"filename ", i as u64, &texts[filename..filename_end]);
 }
 
-// The directory, and how many entries it has.
+fn show_entries(words: &[u64; 644], texts: &[u8; 11520]) {
+    let mut i = 0;
+    while i < 128 {
+        if (i as u64) < words[3] {
+            show_entry(words, texts, i);
+        }
+        i += 1;
+    }
+}
+
+// The directory, and its words.
 fn show_directory(p: &[u8]) -> [u64; 644] {
     let mut words = [0u64; 644];
     let mut texts = [0u8; 11520];
     host::ambrothel_open_directory(p, &mut words, &mut texts);
     let head = [words[0], words[1], words[2], words[3]];
     print_words(b"directory ", &[], &head);
-    let mut i = 0;
-    while i < 128 {
-        if (i as u64) < words[3] {
-            show_entry(&words, &texts, i);
-        }
-        i += 1;
-    }
+    show_entries(&words, &texts);
     words
 }
 
@@ -123,21 +127,28 @@ fn print_part(name: &[u8], asked: &[u64], size: u64, bytes: &[u8])
     print_words(name, asked, &line[..end]);
 }
 
-fn show_sph(p: &[u8]) {
+fn show_sph_place(p: &[u8]) {
     let mut place = [0u64; 5];
     host::ambrothel_sph_place(p, &mut place);
     print_words(b"sph_place ", &[], &place);
+}
+
+fn show_sph_part(p: &[u8]) {
     let mut count = [0u64; 1];
     let mut bytes = [0u8; 65536];
     host::ambrothel_sph_part(p, &mut count, &mut bytes);
     print_part(b"sph_part ", &[], count[0], &bytes);
 }
 
-fn show_record(p: &[u8], entry: usize, asked: usize) {
+fn show_record_place(p: &[u8], entry: usize, asked: usize) {
     let question = [entry as u64, asked as u64];
     let mut place = [0u64; 5];
     host::ambrothel_record_place(p, entry, asked, &mut place);
     print_words(b"record_place ", &question, &place);
+}
+
+fn show_record_part(p: &[u8], entry: usize, asked: usize) {
+    let question = [entry as u64, asked as u64];
     let mut count = [0u64; 1];
     let mut bytes = [0u8; 65536];
     host::ambrothel_record_part(p, entry, asked, &mut count, &mut bytes);
@@ -205,32 +216,34 @@ fn show_point(
     print_words(b"point_at ", &question, &answer);
 }
 
-// The records of an entry and the one behind the last; of the first three of the first four entries, fields and points too.
+// A record; of the first three of the first four entries, fields and points too.
+fn show_record(p: &[u8], entry: usize, asked: usize) {
+    show_record_place(p, entry, asked);
+    show_record_part(p, entry, asked);
+    if 3 < entry {
+        return;
+    }
+    if 2 < asked {
+        return;
+    }
+    show_fields(p, entry, asked);
+    show_point(p, entry, asked, 0, 4, 8);
+    show_point(p, entry, asked, 4, 8, 0);
+}
+
+// The records of an entry and the one behind the last.
 fn show_records(p: &[u8], entry: usize, count: u64) {
     let mut asked = 0;
     while asked < 41 {
         if (asked as u64) <= count {
             show_record(p, entry, asked);
-            if entry < 4 {
-                if asked < 3 {
-                    show_fields(p, entry, asked);
-                    show_point(p, entry, asked, 0, 4, 8);
-                    show_point(p, entry, asked, 4, 8, 0);
-                }
-            }
         }
         asked += 1;
     }
 }
 
-// Every call on a product.
-fn show_product(p: &[u8]) {
-    let mut words = [0u64; 3];
-    host::ambrothel_judge(p, &mut words);
-    print_words(b"judge ", &[], &words);
-    let directory = show_directory(p);
-    show_header(p);
-    show_sph(p);
+// The records of every entry, and of the entry behind the last.
+fn show_all_records(p: &[u8], directory: &[u64; 644]) {
     let entries = directory[3];
     let mut entry = 0;
     while entry < 128 {
@@ -242,6 +255,22 @@ fn show_product(p: &[u8]) {
     if entries <= 128 {
         show_records(p, entries as usize, 0);
     }
+}
+
+fn show_judge(p: &[u8]) {
+    let mut words = [0u64; 3];
+    host::ambrothel_judge(p, &mut words);
+    print_words(b"judge ", &[], &words);
+}
+
+// Every call on a product.
+fn show_product(p: &[u8]) {
+    show_judge(p);
+    let directory = show_directory(p);
+    show_header(p);
+    show_sph_place(p);
+    show_sph_part(p);
+    show_all_records(p, &directory);
 }
 
 fn show_file(name: &[u8])

@@ -4,7 +4,7 @@ use Prim.Native.Nat.{ℕ, _+_}
 use mathlib.Core.Path.{refl, sym, ap, _∙_}
 use native.Mathlib.Omega.{arith}
 use borrow.Author.Needs.{needs}
-use Rattle.header.proofs.Places.{headers-end-at, entries-at}
+use Rattle.values.proofs.Places.{headers-end-at, entries-at}
 use Rattle.header.proofs.Rules.{goes-on, never, long-enough, sph-most, headers-fit}
 use Rattle.header.proofs.check_header.Statement.{statement}
 use Rattle.header.proofs.check_header.Tie as tie

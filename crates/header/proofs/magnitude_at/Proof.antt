@@ -4,7 +4,7 @@ use mathlib.Core.Path.{ap, _∙_}
 use native.Mathlib.Omega.{arith}
 use borrow.Author.Needs.{needs}
 use Rattle.text.specs.declared.Number.{Number}
-use Rattle.header.proofs.Values.{held-true}
+use Rattle.values.proofs.Values.{held-true}
 use Rattle.header.proofs.magnitude_at.Statement.{statement}
 use Rattle.header.proofs.magnitude_at.Tie as tie
 

@@ -11,7 +11,7 @@ use Rattle.product.proofs.header_values.Statement.{statement}
 use Rattle.product.proofs.header_values.Tie as tie
 use Rattle.product.proofs.header_values.Reads as reads
 use Rattle.product.proofs.header_values.Lts as lts
-use Rattle.header.proofs.read_header.Reads as read-header-reads
+use Rattle.values.proofs.read_header.Reads as read-header-reads
 use Rattle.layout.proofs.MainHeader.none.Reads as none-reads
 use Rattle.opening.proofs.open_product.Reads as open-product-reads
 

@@ -11,7 +11,7 @@ use Rattle.records.proofs.place_of_unequal.Tie as tie
 use Rattle.records.proofs.place_of_unequal.Reads as reads
 use Rattle.records.proofs.place_of_unequal.Lts as lts
 use Rattle.layout.proofs.Place.refuse.Reads as refuse-reads
-use Rattle.opening.proofs.first_role.Reads as first-role-reads
+use Rattle.variable.proofs.first_role.Reads as first-role-reads
 use Rattle.states.proofs.find_record.Reads as find-record-reads
 
 first-role-requires : tie.Need-first-role-requires

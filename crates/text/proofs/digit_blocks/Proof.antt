@@ -4,8 +4,7 @@ use Prim.Native.Nat.{_-_}
 use native.Mathlib.Omega.{arith}
 use borrow.Author.Tests.{not-false}
 use Rattle.layout.specs.Text.{digit, fits}
-use Rattle.text.specs.LineEnds.{fails}
-use Rattle.text.specs.Runs.{Skipped}
+use Rattle.text.specs.Runs.{fails, Skipped}
 use Rattle.text.proofs.Runs.{skipped-first, skipped-block, skipped-last}
 use Rattle.text.proofs.digit_blocks.Statement.{statement}
 use Rattle.text.proofs.digit_blocks.Tie as tie

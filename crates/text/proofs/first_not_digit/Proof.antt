@@ -7,7 +7,7 @@ use borrow.Author.Needs.{needs}
 use borrow.Author.Tests.{not-true, not-false}
 use Rattle.layout.specs.Search.{find}
 use Rattle.layout.specs.Text.{digit, fits}
-use Rattle.text.specs.LineEnds.{fails}
+use Rattle.text.specs.Runs.{fails}
 use Rattle.layout.proofs.Laws.{find-hit, find-next, find-none}
 use Rattle.text.proofs.Tests.{passing, failing}
 use Rattle.text.proofs.first_not_digit.Statement.{statement}

@@ -7,7 +7,7 @@ use native.Mathlib.Omega.{arith}
 use borrow.Author.Needs.{needs}
 use Rattle.layout.specs.Search.{some}
 use Rattle.layout.specs.Text.{plain, fits}
-use Rattle.text.specs.LineEnds.{fails}
+use Rattle.text.specs.Runs.{fails}
 use Rattle.text.proofs.Runs.{all-none, all-more, all-end}
 use Rattle.text.proofs.Tests.{class-test}
 use Rattle.text.proofs.plain_in.Statement.{statement}

@@ -1,0 +1,15 @@
+-- `cover::holds` meets its contract.
+-- Assumes nothing.
+use borrow.Author.Needs.{needs}
+use Rattle.cover.proofs.Laws.{holds-later, holds-rest}
+use Rattle.cover.proofs.holds.Statement.{statement}
+use Rattle.cover.proofs.holds.Tie as tie
+
+returns : tie.Need-returns
+returns c = holds-later _ _ _ (c .if1 .taken)
+
+returns-2 : tie.Need-returns-2
+returns-2 c = holds-rest _ _ _ (c .if1 .left)
+
+pub holds-spec : {M : Type 1} → statement M
+holds-spec = tie.close (tie.spec returns returns-2)

@@ -1,0 +1,182 @@
+// The 34 values of the main header (document 01, "Fixed layouts").
+ghost use mathlib.Core.Path.{_≡_};
+ghost use Prim.Native.Nat.{_+_, _≤_, _<_};
+ghost use lib.ListN.{length};
+ghost use Rattle.layout.specs.Bytes.{part};
+ghost use Rattle.layout.specs.Text.{numberOf, whole};
+ghost use Rattle.layout.specs.Entries.{totSize};
+ghost use Rattle.layout.specs.Answers.{headerOf};
+
+// The bytes from `at` on fill `d`.
+fn fill(p: &[u8], at: usize, d: &mut [u8])
+    requires { ⌜ at + length (now d) ≤ length (now p) ⌝ }
+    ensures { λ r. ⌜ now (d .exit) ≡ part (now (p .entry)) at (length (now (d .entry))) ⌝ }
+{
+    let mut i = 0;
+    while i < d.len() {
+        d[i] = p[at + i];
+        i += 1;
+    }
+}
+
+// The texts of the seven lengths that the main header has.
+fn bytes2(p: &[u8], at: usize) -> [u8; 2]
+    requires { ⌜ at + 2 ≤ length (now p) ⌝ }
+    ensures { λ r. ⌜ r ≡ part (now (p .entry)) at 2 ⌝ }
+{
+    let mut d = [0u8; 2];
+    fill(p, at, &mut d);
+    d
+}
+
+fn bytes6(p: &[u8], at: usize) -> [u8; 6]
+    requires { ⌜ at + 6 ≤ length (now p) ⌝ }
+    ensures { λ r. ⌜ r ≡ part (now (p .entry)) at 6 ⌝ }
+{
+    let mut d = [0u8; 6];
+    fill(p, at, &mut d);
+    d
+}
+
+fn bytes14(p: &[u8], at: usize) -> [u8; 14]
+    requires { ⌜ at + 14 ≤ length (now p) ⌝ }
+    ensures { λ r. ⌜ r ≡ part (now (p .entry)) at 14 ⌝ }
+{
+    let mut d = [0u8; 14];
+    fill(p, at, &mut d);
+    d
+}
+
+fn bytes20(p: &[u8], at: usize) -> [u8; 20]
+    requires { ⌜ at + 20 ≤ length (now p) ⌝ }
+    ensures { λ r. ⌜ r ≡ part (now (p .entry)) at 20 ⌝ }
+{
+    let mut d = [0u8; 20];
+    fill(p, at, &mut d);
+    d
+}
+
+fn bytes23(p: &[u8], at: usize) -> [u8; 23]
+    requires { ⌜ at + 23 ≤ length (now p) ⌝ }
+    ensures { λ r. ⌜ r ≡ part (now (p .entry)) at 23 ⌝ }
+{
+    let mut d = [0u8; 23];
+    fill(p, at, &mut d);
+    d
+}
+
+fn bytes27(p: &[u8], at: usize) -> [u8; 27]
+    requires { ⌜ at + 27 ≤ length (now p) ⌝ }
+    ensures { λ r. ⌜ r ≡ part (now (p .entry)) at 27 ⌝ }
+{
+    let mut d = [0u8; 27];
+    fill(p, at, &mut d);
+    d
+}
+
+fn bytes62(p: &[u8], at: usize) -> [u8; 62]
+    requires { ⌜ at + 62 ≤ length (now p) ⌝ }
+    ensures { λ r. ⌜ r ≡ part (now (p .entry)) at 62 ⌝ }
+{
+    let mut d = [0u8; 62];
+    fill(p, at, &mut d);
+    d
+}
+
+// The whole number that `width` bytes from `at` on are. A sign and eleven bytes always fit an i64, whatever the bytes.
+pub fn whole_at(p: &[u8], at: usize, width: usize) -> i64
+    requires { ⌜ (1 ≤ width) × (at + width ≤ length (now p)) × (12 < width → numberOf (part (now p) at width) .magnitude ≤ 9223372036854775807) ⌝ }
+    ensures { λ r. ⌜ r ≡ whole (numberOf (part (now (p .entry)) at width)) ⌝ }
+{
+    let number = text::number_at(p, at, width);
+    number.whole()
+}
+
+// The five parts of the answer. Each value is read where its keyword's line has it: a number from its sign on, a text behind its quote.
+fn read_identity(p: &[u8]) -> layout::Identity
+    requires { ⌜ 1247 ≤ length (now p) ⌝ }
+    ensures { λ r. ⌜ r ≡ headerOf (now (p .entry)) .identity ⌝ }
+{
+    layout::Identity {
+        product: bytes62(p, 9),
+        proc_stage: p[84],
+        ref_doc: bytes23(p, 95),
+        acquisition_station: bytes20(p, 182),
+        proc_center: bytes6(p, 217),
+        proc_time: bytes27(p, 236),
+        software_ver: bytes14(p, 279),
+    }
+}
+
+fn read_sensing(p: &[u8]) -> layout::Sensing
+    requires { ⌜ 1247 ≤ length (now p) ⌝ }
+    ensures { λ r. ⌜ r ≡ headerOf (now (p .entry)) .sensing ⌝ }
+{
+    layout::Sensing {
+        sensing_start: bytes27(p, 351),
+        sensing_stop: bytes27(p, 394),
+        phase: p[470],
+        cycle: whole_at(p, 478, 4),
+        rel_orbit: whole_at(p, 493, 6),
+        abs_orbit: whole_at(p, 510, 6),
+    }
+}
+
+fn read_orbit(p: &[u8]) -> layout::Orbit
+    requires { ⌜ 1247 ≤ length (now p) ⌝ }
+    ensures { λ r. ⌜ r ≡ headerOf (now (p .entry)) .orbit ⌝ }
+{
+    layout::Orbit {
+        state_vector_time: bytes27(p, 536),
+        delta_ut1: whole_at(p, 575, 8),
+        x_position: whole_at(p, 598, 12),
+        y_position: whole_at(p, 625, 12),
+        z_position: whole_at(p, 652, 12),
+        x_velocity: whole_at(p, 679, 12),
+        y_velocity: whole_at(p, 708, 12),
+        z_velocity: whole_at(p, 737, 12),
+        vector_source: bytes2(p, 770),
+    }
+}
+
+fn read_clock(p: &[u8]) -> layout::Clock
+    requires { ⌜ 1247 ≤ length (now p) ⌝ }
+    ensures { λ r. ⌜ r ≡ headerOf (now (p .entry)) .clock ⌝ }
+{
+    layout::Clock {
+        utc_sbt_time: bytes27(p, 829),
+        sat_binary_time: whole_at(p, 874, 11),
+        clock_step: whole_at(p, 897, 11),
+        leap_utc: bytes27(p, 956),
+        leap_sign: whole_at(p, 995, 4),
+        leap_err: p[1009],
+    }
+}
+
+fn read_sizes(p: &[u8]) -> layout::Sizes
+    requires { ⌜ (1247 ≤ length (now p)) × (totSize (now p) .magnitude ≤ 9223372036854775807) ⌝ }
+    ensures { λ r. ⌜ r ≡ headerOf (now (p .entry)) .sizes ⌝ }
+{
+    layout::Sizes {
+        product_err: p[1064],
+        tot_size: whole_at(p, 1075, 21),
+        sph_size: whole_at(p, 1113, 11),
+        num_dsd: whole_at(p, 1140, 11),
+        dsd_size: whole_at(p, 1161, 11),
+        num_data_sets: whole_at(p, 1194, 11),
+    }
+}
+
+// The values of the main header, all together. Rule 4 has TOT_SIZE fit; the other numbers always do.
+pub fn read_header(p: &[u8]) -> layout::MainHeader
+    requires { ⌜ (1247 ≤ length (now p)) × (totSize (now p) .magnitude ≤ 9223372036854775807) ⌝ }
+    ensures { λ r. ⌜ r ≡ headerOf (now (p .entry)) ⌝ }
+{
+    layout::MainHeader {
+        identity: read_identity(p),
+        sensing: read_sensing(p),
+        orbit: read_orbit(p),
+        clock: read_clock(p),
+        sizes: read_sizes(p),
+    }
+}

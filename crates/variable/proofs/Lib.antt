@@ -1,0 +1,3 @@
+pub mod Roles
+pub mod States
+pub mod Described
