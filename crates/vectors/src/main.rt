@@ -56,9 +56,8 @@ fn print_numbered(name: &[u8], number: u64, text: &[u8])
     io::write_all(STDOUT_FILENO, &out[..ended]);
 }
 
-// One entry: its numbers, its name and its FILENAME.
-fn show_entry(words: &[u64], texts: &[u8], i: usize)
-    requires { ⌜ (i ≤ 127) × ((length (now words) ≡ 644) × (length (now texts) ≡ 11520)) ⌝ }
+fn show_numbers(words: &[u64; 644], i: usize)
+    requires { ⌜ i ≤ 127 ⌝ }
 {
     let numbers = [
         words[4 + i],
@@ -69,15 +68,35 @@ fn show_entry(words: &[u64], texts: &[u8], i: usize)
     ];
     let number = [i as u64];
     print_words(b"entry ", &number, &numbers);
-    let name = 28 * i;
-    let name_end = name + 28;
-    print_numbered(b"name ", i as u64, &texts[name..name_end]);
-    let filename = 3584 + 62 * i;
-    let filename_end = filename + 62;
-    print_numbered(b"filename ", i as u64, &texts[filename..filename_end]);
 }
 
-fn show_entries(words: &[u64; 644], texts: &[u8; 11520]) {
+fn show_name(texts: &[u8], i: usize)
+    requires { ⌜ (i ≤ 127) × (length (now texts) ≡ 11520) ⌝ }
+{
+    let start = 28 * i;
+    let end = start + 28;
+    print_numbered(b"name ", i as u64, &texts[start..end]);
+}
+
+fn show_filename(texts: &[u8], i: usize)
+    requires { ⌜ (i ≤ 127) × (length (now texts) ≡ 11520) ⌝ }
+{
+    let start = 3584 + 62 * i;
+    let end = start + 62;
+    print_numbered(b"filename ", i as u64, &texts[start..end]);
+}
+
+fn show_entry(words: &[u64; 644], texts: &[u8], i: usize)
+    requires { ⌜ (i ≤ 127) × (length (now texts) ≡ 11520) ⌝ }
+{
+    show_numbers(words, i);
+    show_name(texts, i);
+    show_filename(texts, i);
+}
+
+fn show_entries(words: &[u64; 644], texts: &[u8])
+    requires { ⌜ length (now texts) ≡ 11520 ⌝ }
+{
     let mut i = 0;
     while i < 128 {
         if (i as u64) < words[3] {

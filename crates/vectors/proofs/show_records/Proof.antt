@@ -18,15 +18,6 @@ loop-holds c = omega arith
 show-record-requires : tie.Need-show-record-requires Inv-loop μ-loop
 show-record-requires c κs = search needs
 
-show-fields-requires : tie.Need-show-fields-requires Inv-loop μ-loop
-show-fields-requires c κs = search needs
-
-show-point-requires : tie.Need-show-point-requires Inv-loop μ-loop
-show-point-requires c κs = search needs
-
-show-point-requires-2 : tie.Need-show-point-requires-2 Inv-loop μ-loop
-show-point-requires-2 c κs = search needs
-
 add-asked : tie.Need-add-asked Inv-loop μ-loop
 add-asked c = omega arith
 
@@ -47,9 +38,6 @@ show-records-spec =
     μ-loop
     loop-holds
     show-record-requires
-    show-fields-requires
-    show-point-requires
-    show-point-requires-2
     add-asked
     loop-less
     loop-again
