@@ -1,9 +1,9 @@
 -- Products for cases: text and c blank, numbers +0 and flags 0, but for what is given by keyword.
 -- Assumes nothing.
-use Prim.Native.Nat.{ℕ, zero, suc, _+_, _*_, _-_, _/_, _%_}
+use Prim.Native.Nat.{ℕ, zero, suc, _+_, _*_, _/_, _%_}
 use Prim.Native.String.{String}
-use mathlib.Core.Bool.{Bool, true, false, cond}
-use mathlib.Core.List.{List, [], _∷_, _++_, map}
+use mathlib.Core.Bool.{cond}
+use mathlib.Core.List.{List, [], _∷_, _++_}
 use lib.Text.{eqt}
 use lib.ListN.{length, take, replicate}
 use Rattle.layout.specs.Bytes.{bytes}

@@ -1,13 +1,12 @@
 -- Cases A to L of document 01: one table, one statement, by computation. And in the same way states, unequal records, spares and SPH lines.
 -- Assumes nothing.
-use Prim.Native.Nat.{ℕ, zero, suc, _+_, _*_, _-_, _/_, _%_}
-use Prim.Native.String.{String}
-use mathlib.Core.Bool.{Bool, true, false, cond}
+use Prim.Native.Nat.{ℕ, _+_, _-_}
+use mathlib.Core.Bool.{false}
 use mathlib.Core.List.{List, [], _∷_, _++_, map}
 use mathlib.Core.Path.{_≡_, refl}
-use lib.IntN.{ℤ, pos, negsuc, negℤ}
-use lib.Ieee.{Float, fin, ofInt, ofBits, div}
-use lib.ListN.{length, take, drop, getD, replicate}
+use lib.IntN.{pos, negsuc}
+use lib.Ieee.{fin, ofInt, ofBits, div}
+use lib.ListN.{length, take, replicate}
 use Rattle.layout.specs.Bytes.{bytes, part, byteAt, unsignedAt, twosComplement, signedAt}
 use Rattle.layout.specs.Text.{fits, valueClasses, lineClasses, layout, valueWidth, quoteWidth, placeOf, widthOf, valueOf, digits, numberOf, whole}
 use Rattle.layout.specs.Lines.{mph, dsd, spareDsd}

@@ -12,7 +12,7 @@ use lib.IntN.{ℤ, pos}
 use lib.ListN.{length, set, replicate, length-map, length-append}
 use lib.Seq.{append-snoc, set-at}
 use borrow.Author.Tests.{eq-eqb, ne-eqb, ltb-true, ltb-false}
-use Rattle.layout.specs.Answer.{Answer, accepted, refused, _orElse_, need}
+use Rattle.layout.specs.Answer.{Answer, accepted, refused, need, _orElse_}
 use Rattle.layout.specs.Search.{first, count, upto}
 use Rattle.layout.specs.Entries.{Entry, entries, entryAt, directory, start, extent, isData}
 use Rattle.layout.specs.Rules.{isDataAt}

@@ -1,29 +1,28 @@
 -- Rules 7 to 14 put together from what the checks answer, and what rules 8 and 10 give to those after them: only entries with a set have a size.
 -- Assumes nothing.
-use Prim.Native.Nat.{ℕ, zero, suc, _+_, _*_, _-_, _≤_, _<_}
-use mathlib.Core.Bool.{Bool, true, false, cond, _&&_, _||_, not, and-false}
-use mathlib.Core.List.{List, [], _∷_, map}
+use Prim.Native.Nat.{ℕ, zero, suc, _+_, _*_, _-_, _<_}
+use mathlib.Core.Bool.{Bool, true, false, _&&_, _||_, not, and-false}
+use mathlib.Core.List.{List, map}
 use mathlib.Core.Logic.{_⊎_, inl, inr, ⊎-elim}
 use mathlib.Core.Path.{_≡_, refl, sym, ap, _∙_}
 use native.Mathlib.Omega.{arith}
-use lib.Dec.{T, ltb, eqb, eqb→eq}
+use lib.Dec.{T, ltb, eqb}
 use lib.IntN.{pos, negsuc}
 use lib.Signed.{leZ, ltZ}
-use lib.ListN.{length, take, drop, getD, replicate, length-drop, length-map, length-replicate, getD-replicate, List·getD-append, List·getD-map}
-use lib.Seq.{getD-take, getD-drop, ext-getD, length-take-le}
+use lib.ListN.{length, drop, getD, replicate, length-drop, length-map, List·getD-append, List·getD-map}
+use lib.Seq.{length-take-le}
 use borrow.Author.Tests.{eq-eqb, ne-eqb, eqb-true, le-ltb}
-use Rattle.layout.specs.Bytes.{bytes, part, byteAt, member}
-use Rattle.layout.specs.Text.{exactly, plain, fits, layout, lineClasses, valueClasses, valueWidth, quoteWidth, placeOf, widthOf, valueOf, digits, numberOf, whole}
-use Rattle.layout.specs.Lines.{mph, dsd, spareDsd}
-use Rattle.layout.specs.Answer.{Answer, accepted, refused, _orElse_, need}
+use Rattle.layout.specs.Bytes.{bytes, part, member}
+use Rattle.layout.specs.Text.{layout, lineClasses, valueClasses, valueWidth, quoteWidth, placeOf, widthOf, valueOf, digits, numberOf, whole}
+use Rattle.layout.specs.Lines.{mph, dsd}
+use Rattle.layout.specs.Answer.{Answer, accepted, refused, need, _orElse_}
 use Rattle.layout.specs.Answers.{verdictIs, padded}
 use Rattle.layout.specs.declared.Verdict.{Verdict}
 use Rattle.layout.specs.Search.{first, count, laidOut}
 use Rattle.layout.specs.Sph.{sphLines}
 use Rattle.layout.specs.Entries.{Entry, eqZ, headerNumber, numDataSets, entries, dsdAt, dsdBytes, entryOf, entryAt, directory, at, start, extent, nonEmpty, isData, isReference, allZero, inRange, setFits, numbersFit}
 use Rattle.layout.specs.Rules.{linesOf, rule7At, rule7, rule8At, rule8, rule9At, rule9, rule10At, rule10, dataSets, rule11, rule12At, rule12, rule13At, rule13, rule14At, rule14}
-use Rattle.layout.proofs.Laws.{accepted≢refused, need-accepts, orElse-accepts, orElse-assoc, first-accepts-0, laidOut-fits}
-use Rattle.layout.proofs.Starts.{dsd-length, spare-length}
+use Rattle.layout.proofs.Laws.{accepted≢refused, need-accepts, orElse-accepts, orElse-assoc, first-accepts-0}
 use Rattle.layout.proofs.Sound.{length-directory, at-directory}
 use Rattle.layout.proofs.Types.{laidOut-typed}
 use Rattle.text.specs.Numbers.{numberIn}

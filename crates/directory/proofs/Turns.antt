@@ -9,7 +9,7 @@ use lib.Dec.{leb, eqb}
 use borrow.Author.Tests.{eq-eqb, ne-eqb}
 use Rattle.layout.specs.Bytes.{part}
 use Rattle.layout.specs.Text.{layout}
-use Rattle.layout.specs.Answer.{accepted, refused, _orElse_, need}
+use Rattle.layout.specs.Answer.{accepted, refused, need, _orElse_}
 use Rattle.layout.specs.Search.{laidOut}
 use Rattle.layout.specs.Entries.{most, dsdAt, dsdBytes, entryOf, entryAt, numbersFit}
 use Rattle.layout.specs.Rules.{linesOf, rule8At, rule9At, rule10At}

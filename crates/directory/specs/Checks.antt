@@ -6,7 +6,7 @@ use mathlib.Core.Path.{_≡_}
 use lib.Dec.{eqb}
 use lib.IntN.{ℤ, pos}
 use lib.ListN.{length, replicate}
-use Rattle.layout.specs.Answer.{Answer, accepted, _orElse_, need}
+use Rattle.layout.specs.Answer.{Answer, accepted, need, _orElse_}
 use Rattle.layout.specs.Search.{first, count, upto}
 use Rattle.layout.specs.Entries.{Entry, headersEnd, entries, dsdAt, entryAt, directory, start, extent}
 use Rattle.layout.specs.Rules.{rule7, rule8, rule9At, rule9, rule10At, rule10, isDataAt, rule11, rule12, rule13, rule14}

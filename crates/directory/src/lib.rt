@@ -7,7 +7,7 @@ ghost use lib.IntN.{pos};
 ghost use lib.ListN.{length, replicate};
 ghost use lib.Seq.{paste};
 ghost use mathlib.Core.List.{List, map};
-ghost use Rattle.layout.specs.Answer.{accepted, refused, _orElse_, need};
+ghost use Rattle.layout.specs.Answer.{accepted, refused, need, _orElse_};
 ghost use Rattle.layout.specs.Answers.{verdictIs, padded, nameOf, filenameOf, directoryOf};
 ghost use Rattle.layout.specs.Bytes.{part};
 ghost use Rattle.layout.specs.Entries.{Entry as LayoutEntry, eqZ, numDataSets, directory};

@@ -1,6 +1,6 @@
 -- Rules 1 to 6 of document 01 together, in the groups that the code checks, and what they give of an accepted header.
 -- Assumes nothing.
-use Prim.Native.Nat.{ℕ, _+_, _*_, _≤_, _<_}
+use Prim.Native.Nat.{ℕ, _+_, _*_, _≤_}
 use mathlib.Core.List.{List, []}
 use mathlib.Core.Path.{_≡_}
 use Rattle.layout.specs.Answer.{Answer, accepted, _orElse_}

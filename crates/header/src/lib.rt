@@ -8,7 +8,7 @@ ghost use Rattle.layout.specs.Text.{numberOf, whole, layout};
 ghost use Rattle.layout.specs.Lines.{mph};
 ghost use Rattle.layout.specs.Answer.{refused};
 ghost use Rattle.layout.specs.Search.{laidOut};
-ghost use Rattle.layout.specs.Entries.{totSize, withinZ};
+ghost use Rattle.layout.specs.Entries.{withinZ};
 ghost use Rattle.layout.specs.Rules.{sphFits, dsdsFit, rule6};
 ghost use Rattle.layout.specs.Answers.{verdictIs};
 ghost use Rattle.header.specs.Checks.{lengthRules, totalRules, rules1to6, HeaderChecked};

@@ -10,7 +10,6 @@ use words::put_field;
 use words::put_place;
 use words::put_point;
 use words::put_verdict;
-ghost use mathlib.Core.Path.{_≡_};
 ghost use mathlib.Core.List.{[], _∷_};
 ghost use lib.ListN.{length};
 ghost use Rattle.layout.specs.Rules.{verdict};

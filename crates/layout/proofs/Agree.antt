@@ -3,25 +3,23 @@
 -- Assumes nothing.
 use Prim.Native.Nat.{ℕ, zero, suc, _+_, _*_, _-_, _≤_, _<_}
 use Prim.Native.String.{String}
-use mathlib.Core.Bool.{Bool, true, false, cond}
-use mathlib.Core.Logic.{_⊎_, inl, inr}
-use mathlib.Core.List.{List, [], _∷_, _++_, map}
-use mathlib.Core.Path.{_≡_, refl, sym, ap, _∙_, subst}
+use mathlib.Core.List.{List, [], _∷_, map}
+use mathlib.Core.Path.{_≡_, refl, sym, ap, _∙_}
 use native.Mathlib.Omega.{arith}
-use lib.Dec.{T, leb, lit≤}
+use lib.Dec.{T, lit≤}
 use lib.ListN.{length, take, drop}
 use lib.Seq.{take-take}
 use Rattle.layout.specs.Bytes.{part}
-use Rattle.layout.specs.Text.{Number, layout, lineClasses, valueClasses, valueWidth, quoteWidth, placeOf, widthOf, valueOf, numberOf, whole}
+use Rattle.layout.specs.Text.{Number, layout, lineClasses, valueClasses, valueWidth, quoteWidth, placeOf, widthOf, valueOf, numberOf}
 use Rattle.layout.specs.Lines.{mph}
-use Rattle.layout.specs.Answer.{Answer, accepted, refused, _orElse_, need, none}
+use Rattle.layout.specs.Answer.{Answer, accepted, refused, none, _orElse_}
 use Rattle.layout.specs.Search.{first, upto, firstRule, laidOut}
 use Rattle.layout.specs.Entries.{headerNumber, totSize, sphSize, numDsd, dsdSize, numDataSets, headersEnd, entries, dsdAt, dsdBytes, entryAt, directory}
 use Rattle.layout.specs.Sph.{sphLines}
 use Rattle.layout.specs.States.{Tally, statesOf, tallyOf}
 use Rattle.layout.specs.Rules.{rule1, rule2, rule3, rule4, rule5, rule6, sphFits, dsdsFit, rule7, rule8At, rule8, rule9At, rule9, rule10At, rule10, rule11, rule12, rule13, rule14, headerRules, stateRules, verdict}
 use Rattle.layout.specs.Answers.{directoryFor}
-use Rattle.layout.proofs.Laws.{and-T, leb-T, need-accepts, orElse-accepts, orElse-assoc, accepted≢refused, first-same, laidOut-take}
+use Rattle.layout.proofs.Laws.{and-T, leb-T, need-accepts, orElse-accepts, orElse-assoc, first-same, laidOut-take}
 use Rattle.layout.proofs.Starts.{mph-length}
 
 -- ---- parts

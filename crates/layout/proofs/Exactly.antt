@@ -1,20 +1,19 @@
 -- Demand 3, "exactly when", and demand 1's number, place and entry: the verdict accepts exactly where rules 1 to 16 have no fault, and refuses
 -- with number, place and entry exactly where that is the lowest fault of the first rule that has one.
 -- Assumes nothing.
-use Prim.Native.Nat.{ℕ, zero, suc, _+_, _*_, _-_, _≤_, _<_}
-use mathlib.Core.Logic.{_↔_, _⊎_, inl, inr, ⊎-elim}
-use mathlib.Core.List.{List, [], _∷_, _++_}
-use mathlib.Core.Path.{_≡_, refl, sym, ap, _∙_, subst}
+use Prim.Native.Nat.{ℕ, zero, suc, _-_, _≤_, _<_}
+use mathlib.Core.Logic.{_↔_, _⊎_, inl, inr}
+use mathlib.Core.List.{List, [], _∷_}
+use mathlib.Core.Path.{_≡_, refl, sym, subst}
 use native.Mathlib.Omega.{arith}
 use native.Mathlib.Nat.{le-of-suc-le-suc}
 use lib.ListN.{length, getD}
-use Rattle.layout.specs.Answer.{Answer, accepted, refused, _orElse_}
+use Rattle.layout.specs.Answer.{Answer, accepted, refused}
 use Rattle.layout.specs.Search.{firstRule}
 use Rattle.layout.specs.Entries.{headersEnd, directory}
-use Rattle.layout.specs.States.{statesOf, tallyOf}
-use Rattle.layout.specs.Rules.{rule1, rule12, rule13, rule14, headerRules, stateRules, verdict}
-use Rattle.layout.proofs.Laws.{lt-or-le, accepted≢refused, orElse-assoc}
-use Rattle.layout.proofs.Judges.{Upto, Lowest, Never, Judges, JudgesAll, one-more, last-rule}
+use Rattle.layout.specs.Rules.{rule12, rule13, rule14, headerRules, stateRules, verdict}
+use Rattle.layout.proofs.Laws.{lt-or-le, orElse-assoc}
+use Rattle.layout.proofs.Judges.{Upto, Lowest, Never, JudgesAll, one-more, last-rule}
 use Rattle.layout.proofs.Faults.{Fault1, Fault2, Fault3, Fault4, Fault5, Fault6, Fault7, Fault8, Fault9, Fault10, Fault11, Fault12, Fault13, Fault14, Fault15, Fault16, judges1, judges2, judges3, judges4, judges5, judges6, judges7, judges8, judges9, judges10, judges11, judges12, judges13, judges14, judges15, judges16}
 
 module _ (b : List ℕ) where

@@ -8,22 +8,22 @@ use mathlib.Core.List.{List, [], _∷_, _++_, map}
 use mathlib.Core.Path.{_≡_, refl, sym, ap, _∙_, subst}
 use native.Mathlib.Omega.{arith}
 use native.Mathlib.Nat.{zero-add, add-zero, suc-add, add-suc, zero-mul, suc-mul}
-use lib.Dec.{T, leb, ltb, eqb, ltb→lt, eqb→eq, leb·suc-suc, leb·suc-zero}
-use lib.Signed.{leZ, ltZ, _≤ℤ_, _<ℤ_}
+use lib.Dec.{T, leb, ltb, eqb, ltb→lt, leb·suc-suc, leb·suc-zero}
+use lib.Signed.{ltZ, _≤ℤ_, _<ℤ_}
 use lib.IntN.{ℤ, pos, negsuc, negℤ}
-use lib.ListN.{length, take, drop, getD, replicate, length-append, length-replicate}
+use lib.ListN.{length, drop, replicate, length-append, length-replicate}
 use Rattle.layout.specs.Bytes.{bytes, byteAt, within}
-use Rattle.layout.specs.Text.{Class, plain, fits, layout, Number, whole}
+use Rattle.layout.specs.Text.{layout, Number, whole}
 use Rattle.layout.specs.Lines.{mph, dsd, spareDsd}
-use Rattle.layout.specs.Answer.{Answer, accepted, refused, _orElse_, need, none, where′, _⇒_}
-use Rattle.layout.specs.Search.{first, some, count, upto, sum, join, laidOut}
-use Rattle.layout.specs.Entries.{Entry, most, isZero, atLeast, withinZ, eqZ, totSize, sphSize, numDsd, dsdSize, numDataSets, headersEnd, entries, dsdAt, dsdBytes, entryAt, directory, at, isData, isReference, called, nonEmpty, start, extent, holds, shares, kindOf, isVariable, isFixed, allZero, inRange, setFits, numbersFit}
+use Rattle.layout.specs.Answer.{Answer, need, none, _⇒_, _orElse_}
+use Rattle.layout.specs.Search.{first, some, count, upto, sum, join}
+use Rattle.layout.specs.Entries.{Entry, most, eqZ, totSize, sphSize, numDsd, dsdSize, numDataSets, headersEnd, entries, dsdAt, dsdBytes, entryAt, directory, at, isData, isReference, called, nonEmpty, start, extent, holds, shares, kindOf, isVariable, isFixed, allZero, inRange, setFits, numbersFit}
 use Rattle.layout.specs.Sph.{sphLines, line, lineBegins}
-use Rattle.layout.specs.States.{State, Tally, stateFits, stateCount, stateLengths, stateBytes, countOf, totalOf, isStatesAt, statesEntry, stateAt, statesOf, stateIn, firstBad, tallyOf, ofKind}
+use Rattle.layout.specs.States.{State, stateFits, stateCount, stateLengths, stateBytes, countOf, totalOf, isStatesAt, statesEntry, stateAt, statesOf, stateIn, firstBad, tallyOf, ofKind}
 use Rattle.layout.specs.Records.{variableLengths}
-use Rattle.layout.specs.Rules.{rule1, rule2, rule3, rule4, rule5, sphFits, dsdsFit, rule6, rule7At, rule7, linesOf, rule8At, rule8, rule9At, rule9, rule10At, rule10, dataSets, rule11, setInside, rule12At, rule12, sharesAt, rule13At, rule13, holdsAt, rule14At, rule14, isVariableAt, statesFit, rule15, isFilled, rule16At, rule16}
-use Rattle.layout.proofs.Laws.{lt-or-le, not-not-T, either-iff, not-iff, and-T, imp-T, or-T, not-T′, not-imp-T, leb-T, under, eqb-T, leZ-T, ltZ-T, eqZ-T, some-T}
-use Rattle.layout.proofs.Judges.{Upto, Lowest, At, Judges, same-faults, need-judges, need-then-judges, both-judges, where-judges, entries-judge, places-judge, in-order, LaidOut, laidOut-judges}
+use Rattle.layout.specs.Rules.{rule1, rule2, rule3, rule4, rule5, sphFits, dsdsFit, rule6, rule7At, rule7, linesOf, rule8At, rule8, rule9At, rule9, rule10At, rule10, dataSets, rule11, setInside, rule12At, sharesAt, rule13At, holdsAt, rule14At, isVariableAt, statesFit, rule15, isFilled, rule16At, rule16}
+use Rattle.layout.proofs.Laws.{not-not-T, either-iff, not-iff, and-T, imp-T, or-T, not-T′, not-imp-T, leb-T, under, eqb-T, leZ-T, ltZ-T, eqZ-T, some-T}
+use Rattle.layout.proofs.Judges.{Upto, At, Judges, same-faults, need-judges, need-then-judges, both-judges, where-judges, entries-judge, places-judge, in-order, LaidOut, laidOut-judges}
 use Rattle.layout.proofs.Starts.{mph-length, dsd-length, spare-length}
 
 ruleset tests = (some-T, and-T, imp-T, not-T′, leb-T, eqb-T, eqZ-T, leZ-T, ltZ-T)

@@ -1,17 +1,17 @@
 -- What it is that an answer judges a rule: it accepts exactly where there is no fault, and else gives the rule's number and the lowest fault,
 -- by entry and then by place. Each way of building a rule has its law.
 -- Assumes nothing.
-use Prim.Native.Nat.{ℕ, zero, suc, _+_, _*_, _-_, _≤_, _<_}
-use mathlib.Core.Bool.{Bool, true, false, cond, _&&_, _||_, not}
+use Prim.Native.Nat.{ℕ, zero, suc, _+_, _-_, _≤_, _<_}
+use mathlib.Core.Bool.{Bool, true, false}
 use mathlib.Core.Logic.{_↔_, _⊎_, inl, inr, ⊎-elim}
-use mathlib.Core.List.{List, [], _∷_, _++_}
-use mathlib.Core.Path.{_≡_, refl, sym, ap, _∙_, subst}
+use mathlib.Core.List.{List, [], _∷_}
+use mathlib.Core.Path.{_≡_, refl, sym, _∙_, subst}
 use native.Mathlib.Omega.{arith}
-use native.Mathlib.Nat.{add-zero, add-suc, suc-add, le-of-suc-le-suc, not-suc-le-zero}
-use lib.Dec.{T, T-not}
+use native.Mathlib.Nat.{add-zero, le-of-suc-le-suc, not-suc-le-zero}
+use lib.Dec.{T}
 use lib.ListN.{length, getD}
 use Rattle.layout.specs.Text.{Class, plain, fits}
-use Rattle.layout.specs.Answer.{Answer, accepted, refused, _orElse_, need, where′}
+use Rattle.layout.specs.Answer.{Answer, accepted, refused, need, where′, _orElse_}
 use Rattle.layout.specs.Search.{first, laidOut}
 use Rattle.layout.proofs.Laws.{lt-or-le, not-iff, accepted≢refused, orElse-accepts, orElse-accepted}
 

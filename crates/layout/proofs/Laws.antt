@@ -1,22 +1,22 @@
 -- The laws of tests, answers and searches: what it means that nothing is found, what it means that something is, and the steps of a loop.
 -- Assumes nothing.
-use Prim.Native.Nat.{ℕ, zero, suc, _+_, _*_, _-_, _≤_, _<_}
+use Prim.Native.Nat.{ℕ, zero, suc, _+_, _-_, _≤_, _<_}
 use mathlib.Core.Bool.{Bool, true, false, cond, _&&_, _||_, not}
 use mathlib.Core.Logic.{_↔_, _⊎_, inl, inr, ⊎-elim}
-use mathlib.Core.List.{List, [], _∷_, _++_, map}
+use mathlib.Core.List.{List, [], _∷_, _++_}
 use mathlib.Core.Path.{_≡_, refl, sym, ap, _∙_, subst}
 use native.Mathlib.Omega.{arith}
 use native.Mathlib.Nat.{add-zero, zero-add, add-suc, suc-add, le-of-suc-le-suc, not-suc-le-zero}
 use native.Mathlib.Numerals.{add-one}
-use lib.Dec.{T, leb, ltb, eqb, leb→le, le→leb, eqb→eq, eqb-refl, T-not, not-T}
+use lib.Dec.{T, leb, eqb, leb→le, le→leb, eqb→eq, eqb-refl, T-not, not-T}
 use lib.IntN.{ℤ, pos, negsuc}
 use lib.Signed.{leZ, ltZ, _≤ℤ_, _<ℤ_}
 use lib.ListN.{length, take, drop, getD}
 use lib.Seq.{drop-cons}
 use borrow.Author.Tests.{leb-true, leb-false, eq-eqb, ne-eqb}
 use Rattle.layout.specs.Text.{Class, fits}
-use Rattle.layout.specs.Answer.{Answer, accepted, refused, _orElse_, need, where′, _⇒_}
-use Rattle.layout.specs.Search.{first, some, count, find, upto, laidOut}
+use Rattle.layout.specs.Answer.{Answer, accepted, refused, need, where′, _orElse_}
+use Rattle.layout.specs.Search.{first, some, count, find, laidOut}
 use Rattle.layout.specs.Entries.{eqZ}
 
 pub lt-or-le : (a b : ℕ) → (a < b) ⊎ (b ≤ a)

@@ -1,12 +1,10 @@
 -- The answers' cases are told apart: two answers of one meaning are equal. So where a promise gives the meaning, two results that it allows are
 -- equal.
 -- Assumes nothing.
-use Prim.Native.Nat.{ℕ}
-use mathlib.Core.Path.{_≡_, refl, sym, ap, _∙_}
-use native.Mathlib.Omega.{arith}
-use Rattle.layout.specs.Answer.{Answer, accepted, refused, Reply, refusal, is}
+use mathlib.Core.Path.{_≡_, refl, ap}
+use Rattle.layout.specs.Answer.{Reply, refusal}
 use Rattle.layout.specs.Records.{Span}
-use Rattle.layout.specs.Fields.{Value, integer, single, double, time, Position}
+use Rattle.layout.specs.Fields.{Position}
 use Rattle.layout.specs.Answers.{verdictIs, placeIs, fieldIs, fieldAnswerIs, pointAnswerIs}
 use Rattle.layout.specs.declared.Refusal.{Refusal}
 use Rattle.layout.specs.declared.Verdict.{Verdict}
@@ -18,7 +16,6 @@ use Rattle.layout.specs.declared.Field.{Field}
 use Rattle.layout.specs.declared.Field.the-variants as field-cases
 use Rattle.layout.specs.declared.FieldAnswer.{FieldAnswer}
 use Rattle.layout.specs.declared.FieldAnswer.the-variants as field-answers
-use Rattle.layout.specs.declared.Point.{Point}
 use Rattle.layout.specs.declared.PointAnswer.{PointAnswer}
 use Rattle.layout.specs.declared.PointAnswer.the-variants as point-answers
 

@@ -2,24 +2,24 @@
 -- the headers, and variable sets that their states fill.
 -- Assumes nothing.
 use Prim.Native.Nat.{ℕ, zero, suc, _+_, _*_, _-_, _^_, _≤_, _<_}
-use mathlib.Core.Bool.{Bool, true, false, cond, _&&_, _||_, not}
-use mathlib.Core.Logic.{_↔_, _⊎_, inl, inr}
-use mathlib.Core.List.{List, [], _∷_, _++_, map}
+use mathlib.Core.Bool.{Bool, true, false, cond, _||_}
+use mathlib.Core.Logic.{inl, inr}
+use mathlib.Core.List.{List, [], map}
 use mathlib.Core.Path.{_≡_, refl, sym, ap, _∙_, subst}
 use native.Mathlib.Omega.{arith}
-use native.Mathlib.Nat.{zero-add, add-suc, suc-add, le-of-suc-le-suc, not-suc-le-zero}
+use native.Mathlib.Nat.{zero-add, le-of-suc-le-suc, not-suc-le-zero}
 use lib.Dec.{T, leb, ltb, eqb, eqb→eq, leb→le, lt→ltb}
 use lib.IntN.{ℤ, pos, negsuc, negℤ, pos-ne-negsuc}
 use lib.Signed.{ltZ, leZ, _≤ℤ_}
 use lib.ListN.{length, getD, replicate, length-map}
 use Rattle.layout.specs.Bytes.{bytes, member}
 use Rattle.layout.specs.Text.{Number, whole}
-use Rattle.layout.specs.Answer.{Answer, accepted, refused, _orElse_, need}
-use Rattle.layout.specs.Search.{first, some, upto, firstRule}
+use Rattle.layout.specs.Answer.{accepted}
+use Rattle.layout.specs.Search.{upto, firstRule}
 use Rattle.layout.specs.Entries.{Entry, sphSize, numDsd, headersEnd, entries, dsdAt, dsdBytes, entryOf, entryAt, directory, at, isData, nonEmpty, start, extent, isVariable}
 use Rattle.layout.specs.States.{State, statesOf, tallyOf}
 use Rattle.layout.specs.Records.{lengths}
-use Rattle.layout.specs.Rules.{rule2, rule6, sphFits, dsdsFit, rule8, rule8At, rule10, rule10At, rule12, rule12At, setInside, rule13, rule13At, sharesAt, rule14, rule14At, holdsAt, rule15, rule16, rule16At, isFilled, headerRules, stateRules, verdict}
+use Rattle.layout.specs.Rules.{rule2, rule6, sphFits, dsdsFit, rule8, rule8At, rule10, rule10At, rule12, rule12At, setInside, rule13, rule13At, sharesAt, rule14, rule14At, holdsAt, rule15, rule16, rule16At, headerRules, stateRules, verdict}
 use Rattle.layout.proofs.Laws.{and-T, imp-T, not-T′, leb-T, eqb-T, leZ-T, ltZ-T, eqZ-T, need-accepts, orElse-accepts, where-accepts, first-accepts, first-accepts-0, some-T}
 use Rattle.layout.proofs.Types.{Typed, laidOut-typed}
 use Rattle.layout.proofs.Widths.{count-small}

@@ -1,18 +1,18 @@
 -- What rule 8 gives of one DSD: its type is M, A, G or R, or it is a spare, whose type is a blank and whose numbers are zero.
 -- Assumes nothing.
-use Prim.Native.Nat.{ℕ, zero, suc, _+_, _*_, _-_, _≤_, _<_}
-use mathlib.Core.Bool.{Bool, true, false, cond, _&&_, _||_, not}
-use mathlib.Core.Logic.{_↔_, _⊎_, inl, inr}
-use mathlib.Core.List.{List, [], _∷_, _++_}
-use mathlib.Core.Path.{_≡_, refl, sym, ap, _∙_, subst}
+use Prim.Native.Nat.{ℕ, _+_, _-_, _≤_, _<_}
+use mathlib.Core.Bool.{Bool, true, false, cond}
+use mathlib.Core.Logic.{_⊎_, inl, inr}
+use mathlib.Core.List.{List, [], _∷_}
+use mathlib.Core.Path.{_≡_, sym, _∙_}
 use native.Mathlib.Omega.{arith}
 use lib.Dec.{T, eqb, eqb→eq}
-use lib.ListN.{length, take, drop, getD, replicate, length-take, length-drop, length-replicate, getD-replicate, List·getD-append}
+use lib.ListN.{length, take, drop, getD, replicate, length-drop, length-replicate, getD-replicate, List·getD-append}
 use lib.Seq.{getD-take, getD-drop, ext-getD, length-take-le}
 use Rattle.layout.specs.Bytes.{bytes, part, byteAt, member}
-use Rattle.layout.specs.Text.{Class, exactly, plain, fits, layout, lineClasses, valueClasses, valueWidth, quoteWidth, placeOf, widthOf, valueOf, digits, numberOf}
+use Rattle.layout.specs.Text.{exactly, plain, fits, layout, lineClasses, valueClasses, valueWidth, quoteWidth, placeOf, widthOf, valueOf, digits, numberOf}
 use Rattle.layout.specs.Lines.{dsd, spareDsd}
-use Rattle.layout.specs.Answer.{Answer, accepted}
+use Rattle.layout.specs.Answer.{accepted}
 use Rattle.layout.specs.Search.{laidOut}
 use Rattle.layout.specs.Entries.{Entry, entryOf}
 use Rattle.layout.specs.Rules.{linesOf}

@@ -1,30 +1,30 @@
 -- Demand 3: an accepted product is its headers and, in file order, the records of its sets; each byte lies in exactly one of them; and the
 -- ranks of the non-empty sets are 0, 1 and so on.
 -- Assumes nothing.
-use Prim.Native.Nat.{ℕ, zero, suc, _+_, _*_, _-_, _≤_, _<_}
-use mathlib.Core.Bool.{Bool, true, false, cond, _&&_, _||_, not}
-use mathlib.Core.Logic.{_↔_, _⊎_, inl, inr}
+use Prim.Native.Nat.{ℕ, zero, suc, _+_, _-_, _≤_, _<_}
+use mathlib.Core.Bool.{Bool, true, false, cond, _&&_}
+use mathlib.Core.Logic.{_⊎_, inl, inr}
 use mathlib.Core.List.{List, [], _∷_, _++_, map, append-assoc}
 use mathlib.Core.Path.{_≡_, refl, sym, ap, _∙_, subst, fun-ext}
 use native.Mathlib.Omega.{arith}
 use native.Mathlib.Nat.{add-assoc, add-zero, le-of-suc-le-suc, not-suc-le-zero}
-use lib.Dec.{T, leb, ltb, eqb}
-use lib.IntN.{ℤ, pos, negsuc}
-use lib.Signed.{ltZ, _<ℤ_}
+use lib.Dec.{T, ltb}
+use lib.IntN.{pos}
+use lib.Signed.{ltZ}
 use lib.ListN.{length, take, drop, getD, replicate, take-append-drop}
 use lib.Seq.{drop-drop, take-add, take-nil, take-length}
 use Rattle.layout.specs.Bytes.{part}
 use Rattle.layout.specs.Text.{whole}
 use Rattle.layout.specs.Answer.{accepted}
 use Rattle.layout.specs.Search.{count, upto, sum, join}
-use Rattle.layout.specs.Entries.{Entry, headersEnd, entries, directory, at, isData, nonEmpty, start, extent, kindOf, isVariable}
+use Rattle.layout.specs.Entries.{Entry, headersEnd, directory, at, isData, nonEmpty, start, extent, kindOf, isVariable}
 use Rattle.layout.specs.States.{State, statesOf}
 use Rattle.layout.specs.Rules.{verdict}
 use Rattle.layout.specs.Records.{variableLengths, lengths, recordAt, recordLength, recordPart, records}
 use Rattle.layout.specs.Order.{sorted, select, nonEmptyAt, startAt, nonEmptySets, fileOrder, before, rank, recordsAt, recordsInOrder}
-use Rattle.layout.proofs.Laws.{lt-or-le, and-T, ltZ-T}
-use Rattle.layout.proofs.Chain.{All, Some, Pairs, In, Apart, Inside, Chain, chain, joined, chain-joined, all-map, tally, sorted-all, sorted-some, sorted-pairs, sorted-sorted, sorted-count, starting-before, ranks}
-use Rattle.layout.proofs.Faults.{Byte, Fixed, Variable, NumbersFit, Filled, nonEmpty-extent, fixed-T, variable-T, sum-replicate}
+use Rattle.layout.proofs.Laws.{lt-or-le, and-T}
+use Rattle.layout.proofs.Chain.{All, Some, Pairs, In, Apart, Inside, Chain, chain, joined, chain-joined, tally, sorted-all, sorted-some, sorted-pairs, sorted-sorted, sorted-count, starting-before, ranks}
+use Rattle.layout.proofs.Faults.{Byte, Fixed, Variable, NumbersFit, nonEmpty-extent, variable-T, sum-replicate}
 use Rattle.layout.proofs.Sound.{Sound, sound, no-records}
 
 -- ---- what is claimed

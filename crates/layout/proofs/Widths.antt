@@ -1,22 +1,21 @@
 -- What rule 8 gives of a DSD's numbers: NUM_DSR has ten digits, so it is below 10^10.
 -- Assumes nothing.
-use Prim.Native.Nat.{ℕ, zero, suc, _+_, _*_, _-_, _^_, _≤_, _<_}
-use mathlib.Core.Bool.{Bool, true, false, cond, _&&_, _||_, not}
-use mathlib.Core.Logic.{_⊎_, inl, inr}
-use mathlib.Core.List.{List, [], _∷_, _++_}
-use mathlib.Core.Path.{_≡_, refl, sym, ap, _∙_, subst}
+use Prim.Native.Nat.{ℕ, suc, _+_, _*_, _-_, _^_, _≤_, _<_}
+use mathlib.Core.Bool.{Bool, true, false, cond}
+use mathlib.Core.List.{List, [], _∷_}
+use mathlib.Core.Path.{_≡_, refl, sym, ap, _∙_}
 use native.Mathlib.Omega.{arith}
-use native.Mathlib.Nat.{mul-le-mul-right, mul-one, one-mul, pow-suc, pow-zero, mul-assoc, mul-comm, lt-of-lt-of-le, not-suc-le-zero}
+use native.Mathlib.Nat.{mul-le-mul-right, mul-one, one-mul, pow-suc, pow-zero, mul-assoc, mul-comm, lt-of-lt-of-le}
 use lib.Dec.{T, leb, eqb, leb→le}
-use lib.ListN.{length, take, drop, getD, replicate, length-take, length-drop, length-replicate, getD-replicate}
+use lib.ListN.{length, take, drop, getD, replicate, length-drop, getD-replicate}
 use lib.Seq.{getD-take, getD-drop, drop-cons, length-take-le}
 use borrow.Author.Tests.{ne-eqb}
-use Rattle.layout.specs.Bytes.{bytes, part, byteAt, within}
+use Rattle.layout.specs.Bytes.{part, byteAt, within}
 use Rattle.layout.specs.Text.{Class, plain, digit, fits, layout, lineClasses, valueClasses, valueWidth, quoteWidth, placeOf, widthOf, valueOf, digits, numberOf}
 use Rattle.layout.specs.Lines.{dsd, spareDsd}
-use Rattle.layout.specs.Answer.{Answer, accepted}
+use Rattle.layout.specs.Answer.{accepted}
 use Rattle.layout.specs.Search.{laidOut}
-use Rattle.layout.specs.Entries.{Entry, entryOf}
+use Rattle.layout.specs.Entries.{entryOf}
 use Rattle.layout.specs.Rules.{linesOf}
 use Rattle.layout.proofs.Laws.{laidOut-fits, and-T}
 use Rattle.layout.proofs.Starts.{dsd-length, spare-length}

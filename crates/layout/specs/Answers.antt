@@ -1,20 +1,18 @@
 -- The answers of `src/` as document 01 has them: for each case of an enum its number and values, and what the structs hold.
 -- Assumes nothing.
-use Prim.Native.Nat.{ℕ, zero, suc, _+_, _*_, _-_}
+use Prim.Native.Nat.{ℕ, _+_, _-_}
 use Prim.Native.String.{String}
-use mathlib.Core.Bool.{Bool, true, false, cond}
-use mathlib.Core.List.{List, [], _∷_, _++_, map}
+use mathlib.Core.List.{List, _++_, map}
 use lib.IntN.{ℤ, pos}
 use lib.ListN.{length, replicate}
 use Rattle.layout.specs.Bytes.{byteAt}
-use Rattle.layout.specs.Text.{whole, numberOf, valueOf}
+use Rattle.layout.specs.Text.{whole, valueOf}
 use Rattle.layout.specs.Lines.{mph}
 use Rattle.layout.specs.Answer.{Answer, accepted, refused, Reply, refusal, is}
 use Rattle.layout.specs.Search.{join}
 use Rattle.layout.specs.Entries.{Entry, headerNumber, directory, start, extent}
 use Rattle.layout.specs.Records.{Span}
 use Rattle.layout.specs.Fields.{Value, integer, single, double, time, Position}
-use Rattle.layout.specs.declared.Refusal.{Refusal}
 use Rattle.layout.specs.declared.Verdict.{Verdict}
 use Rattle.layout.specs.declared.Verdict.the-variants as verdict-cases
 use Rattle.layout.specs.declared.Place.{Place}
@@ -24,14 +22,8 @@ use Rattle.layout.specs.declared.Field.{Field}
 use Rattle.layout.specs.declared.Field.the-variants as field-cases
 use Rattle.layout.specs.declared.FieldAnswer.{FieldAnswer}
 use Rattle.layout.specs.declared.FieldAnswer.the-variants as field-answers
-use Rattle.layout.specs.declared.Point.{Point}
 use Rattle.layout.specs.declared.PointAnswer.{PointAnswer}
 use Rattle.layout.specs.declared.PointAnswer.the-variants as point-answers
-use Rattle.layout.specs.declared.Identity.{Identity}
-use Rattle.layout.specs.declared.Sensing.{Sensing}
-use Rattle.layout.specs.declared.Orbit.{Orbit}
-use Rattle.layout.specs.declared.Clock.{Clock}
-use Rattle.layout.specs.declared.Sizes.{Sizes}
 use Rattle.layout.specs.declared.MainHeader.{MainHeader}
 use Rattle.layout.specs.declared.Directory.{Directory}
 

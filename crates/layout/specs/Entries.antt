@@ -1,14 +1,14 @@
 -- The numbers of the main header that the rules go by, and the directory: what each DSD answers, and what is asked of an entry's values.
 -- The tests are over values and not over bytes.
 -- Assumes nothing.
-use Prim.Native.Nat.{ℕ, zero, suc, _+_, _*_, _-_}
+use Prim.Native.Nat.{ℕ, _+_, _*_, _-_}
 use Prim.Native.String.{String}
-use mathlib.Core.Bool.{Bool, true, false, cond, _&&_, _||_, not}
-use mathlib.Core.List.{List, [], _∷_, _++_, map}
+use mathlib.Core.Bool.{Bool, true, false, cond, _&&_, _||_}
+use mathlib.Core.List.{List, [], _∷_, map}
 use lib.Dec.{leb, ltb, eqb}
 use lib.IntN.{ℤ, pos, negsuc}
 use lib.Signed.{leZ, ltZ}
-use lib.ListN.{length, getD, replicate}
+use lib.ListN.{getD, replicate}
 use Rattle.layout.specs.Bytes.{bytes, part, byteAt, member}
 use Rattle.layout.specs.Text.{Number, whole, numberOf, valueOf}
 use Rattle.layout.specs.Lines.{mph, dsd}

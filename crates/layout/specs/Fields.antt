@@ -1,14 +1,14 @@
 -- Fields and points (document 01, "Fields and points"), with refusals 19, 20 and 21.
 -- Assumes nothing.
-use Prim.Native.Nat.{ℕ, zero, suc, _+_, _*_, _-_}
-use mathlib.Core.Bool.{Bool, true, false, cond, _&&_, _||_, not}
+use Prim.Native.Nat.{ℕ, _+_, _-_}
+use mathlib.Core.Bool.{Bool}
 use mathlib.Core.List.{List, [], _∷_}
-use lib.Dec.{leb, ltb, eqb}
-use lib.IntN.{ℤ, pos, negsuc, negℤ}
+use lib.Dec.{leb}
+use lib.IntN.{ℤ, pos, negℤ}
 use lib.Ieee.{Float, binary32, binary64, ofBits, ofInt, div}
 use lib.ListN.{length, getD}
 use Rattle.layout.specs.Bytes.{unsignedAt, signedAt, within}
-use Rattle.layout.specs.Answer.{Answer, none, _orElse_, need, Reply, _else_, _before_}
+use Rattle.layout.specs.Answer.{Answer, need, Reply, _orElse_, _else_, _before_}
 use Rattle.layout.specs.Entries.{withinZ, directory, at}
 use Rattle.layout.specs.States.{statesOf}
 use Rattle.layout.specs.Records.{recordPart, recordRefusal}

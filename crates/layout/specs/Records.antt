@@ -1,18 +1,17 @@
 -- Records (document 01, "What the reader covers" and "State records and unequal lengths"): their lengths, where each begins, the part of the
 -- product that it is, and refusals 17 and 18; and the SPH lines as a part.
 -- Assumes nothing.
-use Prim.Native.Nat.{ℕ, zero, suc, _+_, _*_, _-_}
-use mathlib.Core.Bool.{Bool, true, false, cond, _&&_, _||_, not}
-use mathlib.Core.List.{List, [], _∷_, _++_, map}
-use lib.Dec.{leb, ltb, eqb}
+use Prim.Native.Nat.{ℕ, _+_, _-_}
+use mathlib.Core.Bool.{cond}
+use mathlib.Core.List.{List, [], map}
+use lib.Dec.{ltb}
 use lib.ListN.{length, take, getD, replicate}
 use Rattle.layout.specs.Bytes.{part}
-use Rattle.layout.specs.Answer.{Answer, none, _orElse_, need, Reply, refusal, is, _else_}
+use Rattle.layout.specs.Answer.{Answer, none, need, Reply, refusal, is, _orElse_, _else_}
 use Rattle.layout.specs.Search.{upto, sum, join}
 use Rattle.layout.specs.Entries.{Entry, directory, at, start, kindOf, isVariable, dsdAt}
 use Rattle.layout.specs.States.{State, stateLengths, statesOf}
 use Rattle.layout.specs.Rules.{verdict}
-use Rattle.layout.specs.Sph.{sphLines}
 
 -- a variable set's records are, for each state in order with flag 0 and the set's kind, its count of records of its length
 unfoldable pub variableLengths : List State → ℕ → List ℕ

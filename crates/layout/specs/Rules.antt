@@ -1,16 +1,16 @@
 -- Layout rules 1 to 16 of document 01, each under its number, over the bytes at hand `b` and the length `n`; and the verdict: the first refusal.
 -- Rules 1 to 14 look at no byte behind the headers, rules 15 and 16 at a tally of the states.
 -- Assumes nothing.
-use Prim.Native.Nat.{ℕ, zero, suc, _+_, _*_, _-_}
-use mathlib.Core.Bool.{Bool, true, false, cond, _&&_, _||_, not}
-use mathlib.Core.List.{List, [], _∷_, _++_}
-use lib.Dec.{leb, ltb, eqb}
-use lib.IntN.{ℤ, pos, negsuc}
+use Prim.Native.Nat.{ℕ, _+_, _*_, _-_}
+use mathlib.Core.Bool.{Bool, cond, _&&_, not}
+use mathlib.Core.List.{List, [], _∷_}
+use lib.Dec.{leb, eqb}
+use lib.IntN.{pos}
 use lib.ListN.{length, drop}
 use Rattle.layout.specs.Bytes.{byteAt}
 use Rattle.layout.specs.Text.{Line, whole, layout}
 use Rattle.layout.specs.Lines.{mph, dsd, spareDsd}
-use Rattle.layout.specs.Answer.{Answer, accepted, refused, none, _orElse_, need, where′, _⇒_}
+use Rattle.layout.specs.Answer.{Answer, none, need, where′, _⇒_, _orElse_}
 use Rattle.layout.specs.Search.{first, some, count, firstRule, laidOut}
 use Rattle.layout.specs.Entries.{Entry, withinZ, eqZ, most, totSize, sphSize, numDsd, dsdSize, numDataSets, headersEnd, entries, dsdAt, dsdBytes, entryAt, directory, at, nonEmpty, start, extent, holds, shares, isData, kindOf, isVariable, numbersFit}
 use Rattle.layout.specs.Sph.{sphLines, line, lineBegins}

@@ -2,9 +2,9 @@
 -- place of a rule fall out of its definition.
 -- Assumes nothing.
 use Prim.Native.Nat.{ℕ, zero, suc, _+_}
-use mathlib.Core.Bool.{Bool, true, false, cond, _&&_, _||_, not}
+use mathlib.Core.Bool.{Bool, false, cond, _||_}
 use mathlib.Core.List.{List, [], _∷_, _++_}
-use Rattle.layout.specs.Answer.{Answer, accepted, refused, _orElse_, need}
+use Rattle.layout.specs.Answer.{Answer, accepted, refused, need, _orElse_}
 use Rattle.layout.specs.Text.{Class, fits}
 
 -- the first refusal at the n numbers from i on

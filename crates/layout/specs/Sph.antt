@@ -1,10 +1,9 @@
 -- The lines of the SPH before its DSDs (document 01, "Header text", last paragraph). Each test is over what follows, up to the DSDs.
 -- Assumes nothing.
-use Prim.Native.Nat.{ℕ, zero, suc, _+_, _-_}
-use mathlib.Core.Bool.{Bool, true, false, cond, _&&_, _||_, not}
+use Prim.Native.Nat.{ℕ, zero, suc, _-_}
+use mathlib.Core.Bool.{Bool, true, false, cond, _&&_, _||_}
 use mathlib.Core.List.{List, [], _∷_}
-use lib.Dec.{leb, ltb, eqb}
-use lib.ListN.{length, drop}
+use lib.Dec.{eqb}
 use Rattle.layout.specs.Bytes.{part, byteAt, within}
 use Rattle.layout.specs.Text.{plain, fits}
 use Rattle.layout.specs.Entries.{dsdAt}

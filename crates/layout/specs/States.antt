@@ -1,14 +1,14 @@
 -- State records (document 01, "State records and unequal lengths"): what a state answers, what is asked of it, and the tally of all states,
 -- through which alone rules 15 and 16 look at bytes behind the headers.
 -- Assumes nothing.
-use Prim.Native.Nat.{ℕ, zero, suc, _+_, _*_, _-_}
-use mathlib.Core.Bool.{Bool, true, false, cond, _&&_, _||_, not}
-use mathlib.Core.List.{List, [], _∷_, _++_, map}
-use lib.Dec.{leb, ltb, eqb}
+use Prim.Native.Nat.{ℕ, suc, _+_, _*_, _-_}
+use mathlib.Core.Bool.{Bool, cond, _&&_, _||_, not}
+use mathlib.Core.List.{List, [], _∷_, map}
+use lib.Dec.{leb, eqb}
 use lib.ListN.{length, getD, replicate}
-use Rattle.layout.specs.Bytes.{part, byteAt, unsignedAt, within}
+use Rattle.layout.specs.Bytes.{part, unsignedAt, within}
 use Rattle.layout.specs.Answer.{_⇒_}
-use Rattle.layout.specs.Search.{find, upto, sum, join}
+use Rattle.layout.specs.Search.{find, upto, sum}
 use Rattle.layout.specs.Entries.{Entry, at, start, isStates}
 
 -- table 15.4.1.7.20-1

@@ -1,21 +1,21 @@
 -- The spans of a line, and the lines of a table, one after another.
 -- Assumes nothing.
-use Prim.Native.Nat.{ℕ, zero, suc, _+_, _-_, _≤_, _<_}
-use mathlib.Core.Bool.{Bool, true, false, cond}
-use mathlib.Core.List.{List, [], _∷_, _++_}
+use Prim.Native.Nat.{ℕ, suc, _+_, _-_, _≤_, _<_}
+use mathlib.Core.Bool.{Bool, true, false}
+use mathlib.Core.List.{List, _∷_, _++_}
 use mathlib.Core.Path.{_≡_, refl, sym, _∙_}
 use native.Mathlib.Omega.{arith}
 use native.Mathlib.Nat.{sub-zero}
 use native.Mathlib.Numerals.{add-one}
 use lib.Dec.{T, eqb, leb, eqb→eq, leb→le}
-use lib.ListN.{length, drop, getD, replicate, length-replicate, length-append, length-drop}
+use lib.ListN.{length, drop, replicate, length-replicate, length-append, length-drop}
 use lib.Seq.{length-take-le}
 use borrow.Author.Tests.{eq-eqb, ne-eqb, eqb-true, eqb-false}
 use Rattle.layout.specs.Bytes.{part}
 use Rattle.layout.specs.Text.{Class, exactly, plain, digit, literal, s, sAB, valueClasses}
 use Rattle.layout.proofs.Laws.{and-T}
 use Rattle.lines.specs.declared.Line.{Line}
-use Rattle.lines.specs.Table.{firstBad, valueLaid, widthFits, behind, lineLaid, lineFits, lineOf, linesLaid, linesFit, tableLaid, tableFits}
+use Rattle.lines.specs.Table.{firstBad, valueLaid, widthFits, behind, lineLaid, lineFits, lineOf, linesLaid, linesFit, tableFits}
 use Rattle.lines.proofs.Spans.{after-good, after-bad, length-literal}
 use Rattle.lines.proofs.Values.{text-laid, flag-laid, type-laid, whole-laid, thousandths-laid, millionths-laid, flag-width, type-width, whole-width, thousandths-width, millionths-width}
 

@@ -8,34 +8,17 @@ use native.Mathlib.Numerals.{add-one}
 use lib.IntN.{ℤ, pos}
 use lib.ListN.{getD}
 use lib.Seq.{append-snoc}
-use borrow.Author.Tests.{eq-eqb, ne-eqb}
 use Rattle.layout.specs.Bytes.{bytes}
 use Rattle.layout.specs.Search.{upto, join}
-use Rattle.layout.specs.Listing.{decimal, signedDecimal, trimmed, lineOf}
+use Rattle.layout.specs.Listing.{decimal, lineOf}
 use Rattle.layout.specs.Answers.{verdictIs}
 use Rattle.layout.specs.declared.Directory.{Directory}
 use Rattle.layout.specs.declared.Refusal.{Refusal}
 use Rattle.layout.specs.declared.Verdict.{Verdict}
-use Rattle.lister.specs.declared.Listed.{Listed}
-use Rattle.lister.specs.Lines.{nameAt, listedOf, valueWords, entryText, entryTextAt, entryTexts, refusalText, acceptedText, listingOf}
+use Rattle.listed.specs.Line.{entryText}
+use Rattle.listed.proofs.Lines.{word}
+use Rattle.lister.specs.Lines.{listedOf, entryTextAt, entryTexts, refusalText, acceptedText, listingOf}
 use Rattle.layout.specs.declared.Verdict.the-variants as cases
-
--- what is put for a word and the byte behind it
-abbrev word : List ℕ → List ℕ
-word w = w ++ 32 ∷ []
-
-module _ (names : List ℕ) (e : Listed) where
-  pub values-line : (z : ℤ) → z ≡ e .«record_size» → (e .«ds_type» ∷ []) ++ ((32 ∷ []) ++ (word (trimmed (nameAt names (e .number))) ++ (word (decimal (e .offset)) ++ (word (decimal (e .size)) ++ (word (decimal (e .count)) ++ (signedDecimal z ++ 10 ∷ [])))))) ≡ lineOf (valueWords names e)
-  unfolding lineOf valueWords
-  values-line z h = rw h (simp append-snoc)
-
-  pub spare-line : e .«ds_type» ≡ 32 → (bytes "entry" ++ 32 ∷ []) ++ (word (decimal (e .number)) ++ (bytes "spare" ++ 10 ∷ [])) ≡ entryText names e
-  unfolding entryText lineOf
-  spare-line h = rw (eq-eqb (e .«ds_type») 32 h) (simp append-snoc)
-
-  pub named-line : (e .«ds_type» ≡ 32 → ⊥) → (bytes "entry" ++ 32 ∷ []) ++ (word (decimal (e .number)) ++ lineOf (valueWords names e)) ≡ entryText names e
-  unfolding entryText lineOf valueWords
-  named-line h = rw (ne-eqb (e .«ds_type») 32 h) (simp append-snoc)
 
 -- ---- all entries
 

@@ -1,7 +1,7 @@
 -- What is written for a verdict, a length and a directory is the listing of document 01, for every input.
 -- Assumes nothing.
 use Prim.Native.Nat.{ℕ, zero, suc, _+_, _*_, _-_, _≤_, _<_}
-use mathlib.Core.Bool.{Bool, true, false, cond, _||_}
+use mathlib.Core.Bool.{Bool, true, false, cond}
 use mathlib.Core.Logic.{inl, inr}
 use mathlib.Core.Path.{_≡_, refl, sym, ap, _∙_, subst}
 use mathlib.Core.List.{List, [], _∷_, map}
@@ -24,8 +24,9 @@ use Rattle.layout.specs.Answers.{padded, typeOf, nameOf, countOf, recordSizeOf,
 use Rattle.layout.proofs.Types.{Typed}
 use Rattle.layout.proofs.Faults.{NumbersFit}
 use Rattle.layout.proofs.Sound.{Sound, sound, length-directory, at-directory, last-of-four}
-use Rattle.lister.specs.declared.Listed.{Listed}
-use Rattle.lister.specs.Lines.{listedOf, nameAt, valueWords, entryText, entryTextAt, entryTexts, acceptedText, refusalText, listingOf, longerText}
+use Rattle.listed.specs.declared.Listed.{Listed}
+use Rattle.listed.specs.Line.{nameAt, valueWords, entryText}
+use Rattle.lister.specs.Lines.{listedOf, entryTextAt, entryTexts, acceptedText, refusalText, listingOf, longerText}
 use Rattle.lister.proofs.Held.{held-at, map-at, text-at}
 
 -- ---- numbers

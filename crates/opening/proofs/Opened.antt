@@ -1,9 +1,8 @@
 -- The sixteen rules in the three parts that the code checks, and what opening answers at each.
 -- Assumes nothing.
-use Prim.Native.Nat.{ℕ, _+_, _*_, _≤_}
-use mathlib.Core.List.{List, [], _∷_}
-use mathlib.Core.Path.{_≡_, refl, sym, ap, _∙_, subst}
-use native.Mathlib.Omega.{arith}
+use Prim.Native.Nat.{ℕ}
+use mathlib.Core.List.{List}
+use mathlib.Core.Path.{_≡_, sym, _∙_}
 use lib.ListN.{length}
 use Rattle.layout.specs.Answer.{Answer, accepted, refused, _orElse_}
 use Rattle.layout.specs.Search.{firstRule}
@@ -17,7 +16,7 @@ use Rattle.layout.specs.declared.Verdict.the-variants.{Accepted, Refused}
 use Rattle.layout.proofs.Laws.{orElse-assoc, orElse-accepts, orElse-accepted, accepted≢refused}
 use Rattle.header.specs.Checks.{rules1to6, HeaderChecked}
 use Rattle.header.specs.declared.HeaderCheck.{HeaderCheck}
-use Rattle.directory.specs.Checks.{rules7to14, setsOf, Headers, Listed}
+use Rattle.directory.specs.Checks.{rules7to14, Headers, Listed}
 use Rattle.directory.specs.declared.Sets.{Sets}
 use Rattle.variable.specs.Roles.{Laid}
 use Rattle.opening.specs.Opening.{Judged, closed, Opened}

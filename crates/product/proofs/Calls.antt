@@ -1,28 +1,27 @@
 -- What an opened product gives to the calls: its refusal, or what each call goes by; and the parts that it hands out.
 -- Assumes nothing.
-use Prim.Native.Nat.{ℕ, zero, suc, _+_, _*_, _-_, _≤_, _<_}
-use mathlib.Core.Bool.{Bool, true, false}
+use Prim.Native.Nat.{ℕ, _+_, _*_, _-_, _≤_, _<_}
 use mathlib.Core.List.{List, []}
-use mathlib.Core.Path.{_≡_, refl, sym, ap, _∙_, subst}
+use mathlib.Core.Path.{_≡_, refl, sym, ap, _∙_}
 use native.Mathlib.Omega.{arith}
-use lib.Dec.{T, ltb, ltb→lt}
+use lib.Dec.{ltb, ltb→lt}
 use lib.ListN.{length}
 use Rattle.layout.specs.Bytes.{part}
-use Rattle.layout.specs.Answer.{Answer, accepted, refused, need, Reply, refusal, is, _orElse_, _else_, _before_}
+use Rattle.layout.specs.Answer.{Answer, accepted, refused, Reply, refusal, is, _else_, _before_}
 use Rattle.layout.specs.Entries.{headersEnd, entries, dsdAt, directory, at}
 use Rattle.layout.specs.States.{statesOf}
 use Rattle.layout.specs.Rules.{verdict}
 use Rattle.layout.specs.Records.{Span, lengths, recordAt, recordLength, recordPart, recordRefusal, recordPlace, sphPlace, partOf}
-use Rattle.layout.specs.Fields.{Value, Position, recordOf, fieldIn, fieldReply, pointIn, pointReply}
+use Rattle.layout.specs.Fields.{recordOf}
 use Rattle.layout.specs.Answers.{verdictIs, placeIs}
 use Rattle.layout.specs.declared.Refusal.{Refusal}
 use Rattle.layout.specs.declared.Verdict.the-variants.{Accepted, Refused}
 use Rattle.layout.specs.declared.Place.{Place}
 use Rattle.layout.specs.declared.Place.the-variants as places
-use Rattle.layout.proofs.Laws.{accepted≢refused, orElse-accepts, need-accepts}
-use Rattle.layout.proofs.Sound.{Sound, sound, length-directory}
+use Rattle.layout.proofs.Laws.{orElse-accepts, need-accepts}
+use Rattle.layout.proofs.Sound.{sound, length-directory}
 use Rattle.layout.proofs.Whole.{record-inside}
-use Rattle.directory.specs.Checks.{setsOf, Headers}
+use Rattle.directory.specs.Checks.{Headers}
 use Rattle.opening.specs.Opening.{Opened}
 use Rattle.opening.specs.declared.Opening.{Opening}
 use Rattle.records.specs.Open.{Open}

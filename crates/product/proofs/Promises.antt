@@ -3,20 +3,20 @@
 -- Assumes nothing.
 use Prim.Native.Nat.{ℕ, zero, suc, _+_, _-_, _≤_, _<_}
 use mathlib.Core.List.{List, [], _∷_, _++_, map}
-use mathlib.Core.Logic.{_↔_, _⊎_, inl, inr, ⊎-elim}
-use mathlib.Core.Path.{_≡_, refl, sym, ap, _∙_, subst, fun-ext}
+use mathlib.Core.Logic.{_↔_, _⊎_, inl, inr}
+use mathlib.Core.Path.{_≡_, refl, sym, ap, _∙_}
 use native.Mathlib.Omega.{arith}
 use lib.Dec.{T}
-use lib.ListN.{length, take, drop, length-take, length-drop}
+use lib.ListN.{length, drop, length-drop}
 use lib.Seq.{length-take-le}
 use borrow.Author.Tests.{lt-ltb}
 use Rattle.layout.specs.Bytes.{part}
-use Rattle.layout.specs.Answer.{Answer, accepted, refused, Reply, refusal, is}
+use Rattle.layout.specs.Answer.{accepted, refused, Reply, refusal, is}
 use Rattle.layout.specs.Search.{upto, join}
 use Rattle.layout.specs.Entries.{Entry, headersEnd, directory, at, nonEmpty}
 use Rattle.layout.specs.States.{statesOf}
 use Rattle.layout.specs.Rules.{verdict}
-use Rattle.layout.specs.Records.{Span, lengths, recordAt, recordLength, recordPart, records, recordRefusal, recordPlace, sphPlace, partOf}
+use Rattle.layout.specs.Records.{Span, lengths, recordPart, records, recordRefusal, recordPlace, sphPlace, partOf}
 use Rattle.layout.specs.Order.{fileOrder, recordsAt, recordsInOrder}
 use Rattle.layout.specs.Fields.{fieldReply, pointReply}
 use Rattle.layout.specs.Answers.{verdictIs, placeIs, fieldAnswerIs, pointAnswerIs, headerFor, directoryFor}
@@ -27,8 +27,8 @@ use Rattle.layout.specs.declared.PointAnswer.{PointAnswer}
 use Rattle.layout.specs.declared.DirectoryAnswer.{DirectoryAnswer}
 use Rattle.layout.specs.declared.HeaderAnswer.{HeaderAnswer}
 use Rattle.layout.proofs.Maps.{one-verdict, one-place, one-field-answer, one-point-answer}
-use Rattle.layout.proofs.Chain.{All, all-map}
-use Rattle.layout.proofs.Sound.{Sound, sound}
+use Rattle.layout.proofs.Chain.{All}
+use Rattle.layout.proofs.Sound.{sound}
 use Rattle.layout.proofs.Whole.{joins, only-sets-in-order}
 use Rattle.product.proofs.Calls.{sph-within, record-within}
 

@@ -1,28 +1,27 @@
 -- Records of equal and of unequal lengths, by the arrays of a directory.
 -- Assumes nothing.
 use Prim.Native.Nat.{ℕ, zero, suc, _+_, _*_, _-_, _/_, _≤_, _<_}
-use mathlib.Core.Bool.{Bool, true, false, cond, _&&_, _||_, not}
-use mathlib.Core.List.{List, [], _∷_, _++_, map}
-use mathlib.Core.Logic.{_↔_, _⊎_, inl, inr, ⊎-elim}
+use mathlib.Core.Bool.{Bool, true, false, cond}
+use mathlib.Core.List.{List, [], _∷_}
+use mathlib.Core.Logic.{_⊎_, inl, inr}
 use mathlib.Core.Path.{_≡_, refl, sym, ap, _∙_, subst}
 use native.Mathlib.Omega.{arith}
-use native.Mathlib.Nat.{mul-div-cancel-left, mul-le-mul-right, mul-comm, zero-mul, suc-mul, zero-add, le-of-suc-le-suc, not-suc-le-zero}
-use lib.Dec.{T, leb, ltb, eqb, eqb→eq}
-use lib.ListN.{length, take, drop, getD, replicate, length-replicate, getD-replicate}
-use borrow.Author.Tests.{le-leb, lt-leb, eq-eqb, ne-eqb, lt-ltb, le-ltb, ltb-true}
-use Rattle.layout.specs.Answer.{Answer, accepted, refused, need, Reply, refusal, is, _else_, _orElse_}
-use Rattle.layout.specs.Search.{find, count, some, sum, firstRule}
+use native.Mathlib.Nat.{mul-div-cancel-left, mul-le-mul-right, le-of-suc-le-suc, not-suc-le-zero}
+use lib.Dec.{T, ltb, eqb, eqb→eq}
+use lib.ListN.{length, take, getD, replicate, length-replicate, getD-replicate}
+use borrow.Author.Tests.{lt-ltb, le-ltb}
+use Rattle.layout.specs.Answer.{accepted, need, refusal, is}
+use Rattle.layout.specs.Search.{find, count, sum, firstRule}
 use Rattle.layout.specs.Entries.{Entry, eqZ, directory, at, start, extent, nonEmpty, isData, isVariable, kindOf}
 use Rattle.layout.specs.States.{State, isStatesAt, statesEntry, statesOf, tallyOf}
-use Rattle.layout.specs.Records.{Span, variableLengths, lengths, recordAt, recordLength, recordRefusal, recordPlace}
+use Rattle.layout.specs.Records.{variableLengths, lengths, recordAt, recordLength, recordRefusal, recordPlace}
 use Rattle.layout.specs.Rules.{headerRules, isVariableAt, statesFit, rule15, rule16, stateRules, verdict}
-use Rattle.layout.specs.Answers.{countOf}
 use Rattle.layout.specs.Text.{whole as wholeOf}
 use lib.IntN.{pos}
 use lib.Signed.{ltZ, _<ℤ_}
-use Rattle.layout.proofs.Laws.{lt-or-le, and-T, eqb-T, some-T, need-accepts, where-accepts, orElse-accepts, find-bounds}
-use Rattle.layout.proofs.Faults.{Fixed, Variable, NumbersFit, variable-T, sum-replicate}
-use Rattle.layout.proofs.Sound.{Sound, sound, no-count, length-directory, rule2-sound}
+use Rattle.layout.proofs.Laws.{and-T, eqb-T, some-T, need-accepts, where-accepts, orElse-accepts, find-bounds}
+use Rattle.layout.proofs.Faults.{Fixed, Variable, variable-T, sum-replicate}
+use Rattle.layout.proofs.Sound.{Sound, sound, no-count, rule2-sound}
 use Rattle.directory.specs.Checks.{setsOf}
 use Rattle.directory.specs.declared.Sets.{Sets}
 use Rattle.variable.proofs.States.{roles-at, counts-at, sizes-at, offsets-at, is-variable, role-kind, states-entry, states-missing}

@@ -1,7 +1,7 @@
 -- The words of each part of the main header.
 -- Assumes nothing.
 use Prim.Native.Nat.{ℕ, _^_, _<_}
-use mathlib.Core.Path.{_≡_, refl}
+use mathlib.Core.Path.{_≡_, refl, ap, _∙_}
 use mathlib.Core.List.{List, [], _∷_, _++_, map}
 use lib.IntN.{ℤ}
 use lib.Signed.{mag}
@@ -30,18 +30,22 @@ Small z = mag z < 2 ^ 63
 kept : {z : ℤ} → Small z → back z ≡ z
 kept h = toZ-ofZ {w = w64} (record { sfits = h })
 
-pub sensing-put : (h : Sensing) → Small (h .cycle) → Small (h .«rel_orbit») → Small (h .«abs_orbit») → _≡_ {A = List ℕ} ((h .phase ∷ []) ++ map word (back (h .cycle) ∷ back (h .«rel_orbit») ∷ back (h .«abs_orbit») ∷ [])) (sensingWords h)
+pub word-kept : (z : ℤ) {w : ℕ} → Small z → w ≡ word (back z) → w ≡ word z
+word-kept z h e = e ∙ ap word (kept h)
+
+pub sensing-put : (h : Sensing) {a b c : ℕ} → a ≡ word (h .cycle) → b ≡ word (h .«rel_orbit») → c ≡ word (h .«abs_orbit») → h .phase ∷ a ∷ b ∷ c ∷ [] ≡ sensingWords h
 unfolding sensingWords
-sensing-put h a b c = rw (kept a, kept b, kept c)
+sensing-put h a b c = rw (a, b, c)
 
 pub orbit-put : (h : Orbit) → Small (h .«delta_ut1») → Small (h .«x_position») → Small (h .«y_position») → Small (h .«z_position») → Small (h .«x_velocity») → Small (h .«y_velocity») → Small (h .«z_velocity») → _≡_ {A = List ℕ} (map word (back (h .«delta_ut1») ∷ back (h .«x_position») ∷ back (h .«y_position») ∷ back (h .«z_position») ∷ back (h .«x_velocity») ∷ back (h .«y_velocity») ∷ back (h .«z_velocity») ∷ [])) (orbitWords h)
 unfolding orbitWords
 orbit-put h a b c d e f g = rw (kept a, kept b, kept c, kept d, kept e, kept f, kept g)
 
-pub clock-put : (h : Clock) → Small (h .«sat_binary_time») → Small (h .«clock_step») → Small (h .«leap_sign») → _≡_ {A = List ℕ} (map word (back (h .«sat_binary_time») ∷ back (h .«clock_step») ∷ back (h .«leap_sign») ∷ []) ++ h .«leap_err» ∷ []) (clockWords h)
+pub clock-put : (h : Clock) {a b c : ℕ} → a ≡ word (h .«sat_binary_time») → b ≡ word (h .«clock_step») → c ≡ word (h .«leap_sign») → a ∷ b ∷ c ∷ h .«leap_err» ∷ [] ≡ clockWords h
 unfolding clockWords
-clock-put h a b c = rw (kept a, kept b, kept c)
+clock-put h a b c = rw (a, b, c)
 
-pub sizes-put : (h : Sizes) → Small (h .«tot_size») → Small (h .«sph_size») → Small (h .«num_dsd») → Small (h .«dsd_size») → Small (h .«num_data_sets») → _≡_ {A = List ℕ} ((h .«product_err» ∷ []) ++ map word (back (h .«tot_size») ∷ back (h .«sph_size») ∷ back (h .«num_dsd») ∷ back (h .«dsd_size») ∷ back (h .«num_data_sets») ∷ [])) (sizesWords h)
+pub sizes-put : (h : Sizes) {a b c d e : ℕ} → a ≡ word (h .«tot_size») → b ≡ word (h .«sph_size») → c ≡ word (h .«num_dsd») → d ≡ word (h .«dsd_size») → e ≡ word (h .«num_data_sets»)
+    → h .«product_err» ∷ a ∷ b ∷ c ∷ d ∷ e ∷ [] ≡ sizesWords h
 unfolding sizesWords
-sizes-put h a b c d e = rw (kept a, kept b, kept c, kept d, kept e)
+sizes-put h a b c d e = rw (a, b, c, d, e)

@@ -11,10 +11,10 @@ use words::put_bytes;
 use words::put_numbers;
 use words::put_verdict;
 use words::put_words;
+use words::word_of;
 use writing::put_text;
-ghost use mathlib.Core.Path.{_≡_};
 ghost use mathlib.Core.List.{_++_};
-ghost use Prim.Native.Nat.{ℕ, _+_, _≤_};
+ghost use Prim.Native.Nat.{_+_, _≤_};
 ghost use lib.ListN.{length};
 ghost use Rattle.layout.specs.Answers.{verdictIs};
 ghost use Rattle.writing.specs.Put.{Put};
@@ -32,10 +32,13 @@ fn put_sensing(room: &mut [u64], at: usize, header: Sensing) -> usize
     requires { ⌜ at + 4 ≤ length (now room) ⌝ }
     ensures { λ r. ⌜ Put 4 (sensingWords header) (now (room .entry)) (now (room .exit)) at r ⌝ }
 {
-    let numbers = [header.cycle, header.rel_orbit, header.abs_orbit];
-    let words = [header.phase as u64];
-    let next = put_words(room, at, &words);
-    put_numbers(room, next, &numbers)
+    let words = [
+        header.phase as u64,
+        word_of(header.cycle),
+        word_of(header.rel_orbit),
+        word_of(header.abs_orbit),
+    ];
+    put_words(room, at, &words)
 }
 
 fn put_orbit(room: &mut [u64], at: usize, header: Orbit) -> usize
@@ -58,26 +61,28 @@ fn put_clock(room: &mut [u64], at: usize, header: Clock) -> usize
     requires { ⌜ at + 4 ≤ length (now room) ⌝ }
     ensures { λ r. ⌜ Put 4 (clockWords header) (now (room .entry)) (now (room .exit)) at r ⌝ }
 {
-    let numbers = [header.sat_binary_time, header.clock_step, header.leap_sign];
-    let words = [header.leap_err as u64];
-    let next = put_numbers(room, at, &numbers);
-    put_words(room, next, &words)
+    let words = [
+        word_of(header.sat_binary_time),
+        word_of(header.clock_step),
+        word_of(header.leap_sign),
+        header.leap_err as u64,
+    ];
+    put_words(room, at, &words)
 }
 
 fn put_sizes(room: &mut [u64], at: usize, header: Sizes) -> usize
     requires { ⌜ at + 6 ≤ length (now room) ⌝ }
     ensures { λ r. ⌜ Put 6 (sizesWords header) (now (room .entry)) (now (room .exit)) at r ⌝ }
 {
-    let numbers = [
-        header.tot_size,
-        header.sph_size,
-        header.num_dsd,
-        header.dsd_size,
-        header.num_data_sets,
+    let words = [
+        header.product_err as u64,
+        word_of(header.tot_size),
+        word_of(header.sph_size),
+        word_of(header.num_dsd),
+        word_of(header.dsd_size),
+        word_of(header.num_data_sets),
     ];
-    let words = [header.product_err as u64];
-    let next = put_words(room, at, &words);
-    put_numbers(room, next, &numbers)
+    put_words(room, at, &words)
 }
 
 pub fn put_header(room: &mut [u64], verdict: Verdict, header: MainHeader) -> usize

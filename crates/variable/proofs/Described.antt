@@ -1,35 +1,34 @@
 -- Rules 15 and 16 of a product that meets rules 1 to 14: what each answer of the code says of the rules.
 -- Assumes nothing.
 use Prim.Native.Nat.{ℕ, zero, suc, _+_, _*_, _-_, _^_, _≤_, _<_}
-use mathlib.Core.Bool.{Bool, true, false, cond, _&&_, _||_, not}
-use mathlib.Core.List.{List, [], _∷_, map}
-use mathlib.Core.Logic.{_↔_, _⊎_, inl, inr, ⊎-elim}
-use mathlib.Core.Path.{_≡_, refl, sym, ap, _∙_, subst}
+use mathlib.Core.Bool.{Bool, true, false, cond, not}
+use mathlib.Core.List.{List, [], _∷_}
+use mathlib.Core.Logic.{_⊎_, inl, inr}
+use mathlib.Core.Path.{_≡_, refl, sym, ap, _∙_}
 use native.Mathlib.Omega.{arith}
 use native.Mathlib.Nat.{mul-comm, mul-le-mul-left}
 use lib.Dec.{T, leb, ltb, eqb, eqb→eq, leb→le}
-use lib.IntN.{ℤ, pos, negsuc, negℤ}
+use lib.IntN.{ℤ, pos, negℤ}
 use lib.Signed.{leZ, ltZ, _≤ℤ_}
 use lib.ListN.{length, getD}
 use borrow.Author.Tests.{le-leb, lt-leb, eq-eqb, ne-eqb, lt-ltb, le-ltb}
 use Rattle.layout.specs.Text.{Number, whole}
-use Rattle.layout.specs.Answer.{Answer, accepted, refused, need, where′, _orElse_}
-use Rattle.layout.specs.Search.{first, some, count, find, sum, firstRule}
+use Rattle.layout.specs.Answer.{Answer, accepted, refused, _orElse_}
+use Rattle.layout.specs.Search.{some, count, find, sum}
 use Rattle.layout.specs.Entries.{Entry, eqZ, directory, at, start, extent, nonEmpty, isData, isVariable, isStates, called}
 use Rattle.layout.specs.Bytes.{bytes, member}
 use Rattle.layout.specs.States.{State, Tally, isStatesAt, statesEntry, stateAt, statesOf, firstBad, countOf, totalOf, tallyOf}
-use Rattle.layout.specs.Rules.{headerRules, stateRules, isVariableAt, statesFit, rule15, rule16, rule16At}
-use Rattle.layout.specs.Answers.{recordSizeOf}
-use Rattle.layout.proofs.Laws.{lt-or-le, and-T, find-at, find-bounds, find-before, first-accepts-0, some-found}
-use Rattle.layout.proofs.Faults.{Fixed, Variable, NumbersFit, variable-T, nonEmpty-extent}
+use Rattle.layout.specs.Rules.{stateRules, isVariableAt, statesFit, rule15, rule16, rule16At}
+use Rattle.layout.proofs.Laws.{lt-or-le, and-T, find-at, find-bounds, find-before, first-accepts-0}
+use Rattle.layout.proofs.Faults.{Fixed, Variable, NumbersFit, variable-T}
 use Rattle.layout.proofs.Sound.{length-directory, rule2-sound, rule10-sound, rule12-sound, rule8-sound, entries-sound, count-sound, no-count}
 use Rattle.states.specs.States.{cap, capped, statesFrom, tallyIs}
 use Rattle.states.proofs.Laws.{states-of}
 use Rattle.directory.specs.Checks.{setsOf}
 use Rattle.states.specs.declared.Tally.{Tally as TallyRead}
 use Rattle.directory.specs.declared.Sets.{Sets}
-use Rattle.variable.specs.Roles.{roleWithin, unfilledAt, rule16By, Laid, describedRules}
-use Rattle.variable.proofs.States.{roles-at, counts-at, sizes-at, offsets-at, is-variable, variable-found, states-entry, states-missing, states-once, states-doubled, rule16-found}
+use Rattle.variable.specs.Roles.{roleWithin, rule16By, Laid, describedRules}
+use Rattle.variable.proofs.States.{counts-at, sizes-at, offsets-at, is-variable, variable-found, states-entry, states-missing, states-once, states-doubled, rule16-found}
 
 -- a number that is not negative is above zero where its magnitude is
 above-zero : (n : Number) → pos 0 ≤ℤ whole n → ltZ (pos 0) (whole n) ≡ ltb 0 (n .magnitude)

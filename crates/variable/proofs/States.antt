@@ -1,24 +1,23 @@
 -- Rules 15 and 16 by the arrays, against the rules over a directory.
 -- Assumes nothing.
-use Prim.Native.Nat.{ℕ, zero, suc, _+_, _*_, _-_, _^_, _≤_, _<_}
-use mathlib.Core.Bool.{Bool, true, false, cond, _&&_, _||_, not, and-false}
-use mathlib.Core.List.{List, [], _∷_, _++_, map}
-use mathlib.Core.Logic.{_↔_, _⊎_, inl, inr, ⊎-elim}
-use mathlib.Core.Path.{_≡_, refl, sym, ap, _∙_, subst}
+use Prim.Native.Nat.{ℕ, suc, _+_, _-_, _<_}
+use mathlib.Core.Bool.{Bool, true, false, cond, _&&_, not}
+use mathlib.Core.List.{List, map}
+use mathlib.Core.Path.{_≡_, refl, sym, _∙_}
 use native.Mathlib.Omega.{arith}
 use native.Mathlib.Nat.{zero-add}
 use native.Mathlib.Numerals.{add-one}
-use lib.Dec.{T, leb, ltb, eqb, eqb→eq}
-use lib.IntN.{ℤ, pos}
-use lib.ListN.{length, getD, List·getD-map}
-use borrow.Author.Tests.{le-leb, lt-leb, eq-eqb, ne-eqb}
-use Rattle.layout.specs.Answer.{Answer, accepted, refused, need, where′, _orElse_}
-use Rattle.layout.specs.Search.{first, some, count, find}
-use Rattle.layout.specs.Entries.{Entry, entryOf, at, start, extent, kindOf, isVariable, isStates}
+use lib.Dec.{T, leb, eqb}
+use lib.IntN.{pos}
+use lib.ListN.{length, getD}
+use borrow.Author.Tests.{le-leb, lt-leb, ne-eqb}
+use Rattle.layout.specs.Answer.{need, where′}
+use Rattle.layout.specs.Search.{some, count, find}
+use Rattle.layout.specs.Entries.{Entry, at, start, extent, kindOf, isVariable, isStates}
 use Rattle.layout.specs.States.{Tally, isStatesAt, statesEntry, ofKind}
 use Rattle.layout.specs.Rules.{isVariableAt, isFilled, rule16At, rule16}
-use Rattle.layout.specs.Answers.{padded, countOf, recordSizeOf}
-use Rattle.layout.proofs.Laws.{lt-or-le, some-same, count-same, find-same, some-found, first-found, count-none, count-found, find-bounds}
+use Rattle.layout.specs.Answers.{countOf, recordSizeOf}
+use Rattle.layout.proofs.Laws.{some-same, count-same, find-same, some-found, first-found, count-none, count-found, find-bounds}
 use Rattle.layout.proofs.Faults.{variable-T, kind-most}
 use Rattle.layout.proofs.Padded.{padded-at}
 use Rattle.states.specs.States.{cap, capped, tallyIs}
@@ -26,7 +25,6 @@ use Rattle.states.proofs.Sums.{capped-eqb}
 use Rattle.states.proofs.Laws.{ofKind-capped}
 use Rattle.dsd.specs.Held.{roleOf}
 use Rattle.directory.specs.Checks.{setsOf}
-use Rattle.directory.specs.declared.Sets.{Sets}
 use Rattle.variable.specs.Roles.{roleWithin, unfilled, unfilledAt}
 
 -- ---- roles

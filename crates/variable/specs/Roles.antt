@@ -4,10 +4,10 @@ use Prim.Native.Nat.{ℕ, _-_}
 use mathlib.Core.Bool.{Bool, _&&_, not}
 use mathlib.Core.List.{List}
 use mathlib.Core.Path.{_≡_}
-use lib.Dec.{leb, eqb}
+use lib.Dec.{eqb}
 use lib.ListN.{length, getD}
 use Rattle.layout.specs.Bytes.{within}
-use Rattle.layout.specs.Answer.{Answer, accepted, _orElse_, need}
+use Rattle.layout.specs.Answer.{Answer, accepted, need, _orElse_}
 use Rattle.layout.specs.Search.{find, firstRule}
 use Rattle.layout.specs.Entries.{directory}
 use Rattle.layout.specs.States.{statesEntry, statesOf, tallyOf}

@@ -9,14 +9,14 @@ use layout::Verdict;
 use writing::magnitude;
 ghost use mathlib.Core.Path.{_≡_};
 ghost use mathlib.Core.List.{_∷_, [], map};
-ghost use Prim.Native.Nat.{ℕ, _+_, _≤_};
+ghost use Prim.Native.Nat.{_+_, _≤_};
 ghost use lib.ListN.{length};
 ghost use Rattle.layout.specs.Answers.{verdictIs, placeIs, fieldIs, fieldAnswerIs, pointAnswerIs};
 ghost use Rattle.writing.specs.Put.{Put};
 ghost use Rattle.words.specs.Words.{word, verdictWords, placeWords, valueWords, fieldWords, pointWords, pointDoubles};
 
 // Two's complement.
-fn word_of(number: i64) -> u64
+pub fn word_of(number: i64) -> u64
     ensures { λ r. ⌜ r ≡ word number ⌝ }
 {
     if number < 0 {

@@ -1,7 +1,7 @@
 // Names, texts and numbers put into a lent buffer. A writer puts its text into `out` from the place `at` on, and answers the place behind it.
 ghost use mathlib.Core.Path.{_≡_};
 ghost use mathlib.Core.List.{_∷_, _++_, []};
-ghost use Prim.Native.Nat.{ℕ, _+_, _≤_};
+ghost use Prim.Native.Nat.{_+_, _≤_};
 ghost use lib.IntN.{natAbs};
 ghost use lib.ListN.{length};
 ghost use Rattle.layout.specs.Bytes.{part};

@@ -1,6 +1,5 @@
 -- `cover::holds` meets its contract.
 -- Assumes nothing.
-use borrow.Author.Needs.{needs}
 use Rattle.cover.proofs.Laws.{holds-later, holds-rest}
 use Rattle.cover.proofs.holds.Statement.{statement}
 use Rattle.cover.proofs.holds.Tie as tie

@@ -1,6 +1,6 @@
 -- `directory::check_directory` meets its contract: the first check that refuses decides.
 -- Assumes nothing.
-use mathlib.Core.Path.{_≡_, sym, ap, _∙_, refl}
+use mathlib.Core.Path.{sym, ap, _∙_, refl}
 use native.Mathlib.Omega.{arith}
 use Rattle.layout.specs.Answers.{verdictIs}
 use Rattle.directory.proofs.Rules.{dsds-of, stopped, stop-text}

@@ -2,7 +2,6 @@
 -- Assumes nothing.
 use mathlib.Core.Path.{refl}
 use Rattle.layout.specs.Answers.{verdictIs}
-use borrow.Author.Needs.{needs}
 use Rattle.directory.proofs.full_reading.Statement.{statement}
 use Rattle.directory.proofs.full_reading.Tie as tie
 

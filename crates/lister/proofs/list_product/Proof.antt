@@ -5,11 +5,6 @@ use Rattle.lister.proofs.Whole.{longer, listed, few-entries}
 use borrow.Author.Needs.{needs}
 use Rattle.lister.proofs.list_product.Statement.{statement}
 use Rattle.lister.proofs.list_product.Tie as tie
-use Rattle.lister.proofs.list_product.Reads as reads
-use Rattle.lister.proofs.list_product.Lts as lts
-use Rattle.lister.proofs.write_listing.Reads as write-listing-reads
-use Rattle.lister.proofs.write_longer.Reads as write-longer-reads
-use Rattle.product.proofs.open_directory.Reads as open-directory-reads
 
 write-longer-requires : tie.Need-write-longer-requires
 write-longer-requires c κs = search needs

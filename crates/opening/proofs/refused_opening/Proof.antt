@@ -1,12 +1,8 @@
 -- `opening::refused_opening` meets its contract.
 -- Assumes nothing.
-use mathlib.Core.Path.{_≡_}
 use borrow.Author.Needs.{needs}
 use Rattle.opening.proofs.refused_opening.Statement.{statement}
 use Rattle.opening.proofs.refused_opening.Tie as tie
-use Rattle.opening.proofs.refused_opening.Reads as reads
-use Rattle.opening.proofs.refused_opening.Lts as lts
-use Rattle.directory.proofs.Sets.none.Reads as none-reads
 
 none-requires : tie.Need-none-requires
 none-requires c κs = search needs

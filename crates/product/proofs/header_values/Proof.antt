@@ -1,19 +1,13 @@
 -- `product::header_values` meets its contract.
 -- Assumes nothing.
-use mathlib.Core.Path.{_≡_, sym, ap, _∙_}
-use native.Mathlib.Omega.{arith}
-use Rattle.layout.specs.Answers.{verdictIs, placeIs, fieldAnswerIs, pointAnswerIs, headerFor, directoryFor}
+use mathlib.Core.Path.{sym, ap, _∙_}
+use Rattle.layout.specs.Answers.{verdictIs, headerFor}
 use Rattle.header.proofs.Rules.{long-enough, total-fits}
 use Rattle.opening.proofs.Opened.{first-six}
 use Rattle.product.proofs.Calls.{is-refused, is-accepted}
 use borrow.Author.Needs.{needs}
 use Rattle.product.proofs.header_values.Statement.{statement}
 use Rattle.product.proofs.header_values.Tie as tie
-use Rattle.product.proofs.header_values.Reads as reads
-use Rattle.product.proofs.header_values.Lts as lts
-use Rattle.values.proofs.read_header.Reads as read-header-reads
-use Rattle.layout.proofs.MainHeader.none.Reads as none-reads
-use Rattle.opening.proofs.open_product.Reads as open-product-reads
 
 open-product-requires : tie.Need-open-product-requires
 open-product-requires c κs = search needs

@@ -1,17 +1,11 @@
 -- `product::open_directory` meets its contract.
 -- Assumes nothing.
-use mathlib.Core.Path.{_≡_, sym, ap, _∙_}
-use native.Mathlib.Omega.{arith}
-use Rattle.layout.specs.Answers.{verdictIs, placeIs, fieldAnswerIs, pointAnswerIs, headerFor, directoryFor}
+use mathlib.Core.Path.{sym, ap, _∙_}
+use Rattle.layout.specs.Answers.{verdictIs, directoryFor}
 use Rattle.product.proofs.Calls.{is-refused, is-accepted, now-headers}
 use borrow.Author.Needs.{needs}
 use Rattle.product.proofs.open_directory.Statement.{statement}
 use Rattle.product.proofs.open_directory.Tie as tie
-use Rattle.product.proofs.open_directory.Reads as reads
-use Rattle.product.proofs.open_directory.Lts as lts
-use Rattle.directory.proofs.read_directory.Reads as read-directory-reads
-use Rattle.layout.proofs.Directory.none.Reads as none-reads
-use Rattle.opening.proofs.open_product.Reads as open-product-reads
 
 open-product-requires : tie.Need-open-product-requires
 open-product-requires c κs = search needs

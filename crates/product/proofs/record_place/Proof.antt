@@ -1,17 +1,12 @@
 -- `product::record_place` meets its contract.
 -- Assumes nothing.
-use mathlib.Core.Path.{_≡_, sym, ap, _∙_}
-use native.Mathlib.Omega.{arith}
-use Rattle.layout.specs.Answers.{verdictIs, placeIs, fieldAnswerIs, pointAnswerIs, headerFor, directoryFor}
+use mathlib.Core.Path.{sym}
+use Rattle.layout.specs.Answers.{placeIs}
 use Rattle.layout.specs.Records.{recordRefusal, recordPlace}
 use Rattle.product.proofs.Calls.{is-refused, is-accepted, now-open}
 use borrow.Author.Needs.{needs}
 use Rattle.product.proofs.record_place.Statement.{statement}
 use Rattle.product.proofs.record_place.Tie as tie
-use Rattle.product.proofs.record_place.Reads as reads
-use Rattle.product.proofs.record_place.Lts as lts
-use Rattle.opening.proofs.open_product.Reads as open-product-reads
-use Rattle.records.proofs.place_of_record.Reads as place-of-record-reads
 
 open-product-requires : tie.Need-open-product-requires
 open-product-requires c κs = search needs

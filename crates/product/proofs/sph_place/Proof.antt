@@ -1,16 +1,13 @@
 -- `product::sph_place` meets its contract.
 -- Assumes nothing.
-use mathlib.Core.Path.{_≡_, sym, ap, _∙_}
+use mathlib.Core.Path.{sym}
 use native.Mathlib.Omega.{arith}
-use Rattle.layout.specs.Answers.{verdictIs, placeIs, fieldAnswerIs, pointAnswerIs, headerFor, directoryFor}
+use Rattle.layout.specs.Answers.{placeIs}
 use Rattle.layout.specs.Records.{sphPlace}
 use Rattle.product.proofs.Calls.{is-refused, is-accepted, now-headers, lines-are}
 use borrow.Author.Needs.{needs}
 use Rattle.product.proofs.sph_place.Statement.{statement}
 use Rattle.product.proofs.sph_place.Tie as tie
-use Rattle.product.proofs.sph_place.Reads as reads
-use Rattle.product.proofs.sph_place.Lts as lts
-use Rattle.opening.proofs.open_product.Reads as open-product-reads
 
 open-product-requires : tie.Need-open-product-requires
 open-product-requires c κs = search needs

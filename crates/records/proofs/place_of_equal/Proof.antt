@@ -1,15 +1,12 @@
 -- `records::place_of_equal` meets its contract.
 -- Assumes nothing.
-use mathlib.Core.Path.{_≡_, sym, _∙_, ap}
+use mathlib.Core.Path.{_∙_}
 use native.Mathlib.Omega.{arith}
 use Rattle.layout.specs.Answers.{placeIs}
 use Rattle.records.proofs.Laws.{entries-few, no-record, record-inside, equal-record}
 use borrow.Author.Needs.{needs}
 use Rattle.records.proofs.place_of_equal.Statement.{statement}
 use Rattle.records.proofs.place_of_equal.Tie as tie
-use Rattle.records.proofs.place_of_equal.Reads as reads
-use Rattle.records.proofs.place_of_equal.Lts as lts
-use Rattle.layout.proofs.Place.refuse.Reads as refuse-reads
 
 mul-count : tie.Need-mul-count
 mul-count c = omega (arith, entries-few _ _ (c .before .before .pre .0))

@@ -1,17 +1,11 @@
 -- `records::place_of_record` meets its contract.
 -- Assumes nothing.
-use mathlib.Core.Path.{_≡_, sym, _∙_, ap}
+use mathlib.Core.Path.{sym, _∙_}
 use native.Mathlib.Omega.{arith}
-use Rattle.layout.specs.Answers.{placeIs}
 use Rattle.records.proofs.Laws.{entries-few, not-below, not-above, is-between, in-entries, past-entries}
 use borrow.Author.Needs.{needs}
 use Rattle.records.proofs.place_of_record.Statement.{statement}
 use Rattle.records.proofs.place_of_record.Tie as tie
-use Rattle.records.proofs.place_of_record.Reads as reads
-use Rattle.records.proofs.place_of_record.Lts as lts
-use Rattle.layout.proofs.Place.refuse.Reads as refuse-reads
-use Rattle.records.proofs.place_of_equal.Reads as place-of-equal-reads
-use Rattle.records.proofs.place_of_unequal.Reads as place-of-unequal-reads
 
 refuse-requires : tie.Need-refuse-requires
 refuse-requires c κs = search needs

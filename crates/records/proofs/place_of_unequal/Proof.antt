@@ -1,6 +1,6 @@
 -- `records::place_of_unequal` meets its contract.
 -- Assumes nothing.
-use mathlib.Core.Path.{_≡_, sym, _∙_, ap}
+use mathlib.Core.Path.{sym, _∙_}
 use native.Mathlib.Omega.{arith}
 use Rattle.layout.specs.Answers.{placeIs}
 use native.Mathlib.Nat.{sub-zero}
@@ -8,11 +8,6 @@ use Rattle.records.proofs.Laws.{entries-few, states-there, states-insid
 use borrow.Author.Needs.{needs}
 use Rattle.records.proofs.place_of_unequal.Statement.{statement}
 use Rattle.records.proofs.place_of_unequal.Tie as tie
-use Rattle.records.proofs.place_of_unequal.Reads as reads
-use Rattle.records.proofs.place_of_unequal.Lts as lts
-use Rattle.layout.proofs.Place.refuse.Reads as refuse-reads
-use Rattle.variable.proofs.first_role.Reads as first-role-reads
-use Rattle.states.proofs.find_record.Reads as find-record-reads
 
 first-role-requires : tie.Need-first-role-requires
 first-role-requires c κs = (omega arith, entries-few _ _ (c .before .before .before .pre .0))

@@ -1,19 +1,22 @@
 -- `tables::put_clock` meets its contract.
 -- Assumes nothing.
-use Rattle.writing.proofs.Puts.{then, spelled}
-use Rattle.tables.proofs.Laws.{clock-put}
+use Rattle.writing.proofs.Puts.{spelled}
+use Rattle.tables.proofs.Laws.{word-kept, clock-put}
 use borrow.Author.Needs.{needs}
 use Rattle.tables.proofs.put_clock.Statement.{statement}
 use Rattle.tables.proofs.put_clock.Tie as tie
 
-cast-t7 : tie.Need-cast-t7
-cast-t7 c = search needs
+word-of-requires : tie.Need-word-of-requires
+word-of-requires c κs = search needs
 
-slice-aggregate-put-numbers : tie.Need-slice-aggregate-put-numbers
-slice-aggregate-put-numbers c = search needs
+word-of-requires-2 : tie.Need-word-of-requires-2
+word-of-requires-2 c κs = search needs
 
-put-numbers-requires : tie.Need-put-numbers-requires
-put-numbers-requires c κs = search needs
+word-of-requires-3 : tie.Need-word-of-requires-3
+word-of-requires-3 c κs = search needs
+
+cast-t8 : tie.Need-cast-t8
+cast-t8 c = search needs
 
 slice-aggregate-put-words : tie.Need-slice-aggregate-put-words
 slice-aggregate-put-words c = search needs
@@ -25,15 +28,22 @@ same-length : tie.Need-same-length
 same-length c = search needs
 
 returns : tie.Need-returns
-returns c = spelled (clock-put (c .before .before .before .before .before .before .before .before .before .before .before .before .before .args .header) (c .before .before .before .before .before .before .before .before .before .before .before .struct-told .given .1 .0 .1) (c .before .before .before .before .before .before .before .before .before .before .before .struct-told .given .1 .1 .0 .1) (c .before .before .before .before .before .before .before .before .before .before .before .struct-told .given .1 .1 .1 .1 .0 .1)) (then (c .before .before .before .before .before .before .before .put-numbers .ensures) (c .before .before .put-words .ensures))
+returns c =
+    spelled
+    (clock-put (c .before .before .before .before .before .before .before .before .before .before .before .before .before .args .header)
+    (word-kept (c .before .before .before .before .before .before .before .before .before .before .before .before .before .args .header .«sat_binary_time») (c .before .before .before .before .before .before .before .before .before .before .before .struct-told .given .1 .0 .1) (c .before .before .before .before .before .before .before .before .before .before .word-of .ensures))
+    (word-kept (c .before .before .before .before .before .before .before .before .before .before .before .before .before .args .header .«clock_step») (c .before .before .before .before .before .before .before .before .before .struct-told2 .given .1 .1 .0 .1) (c .before .before .before .before .before .before .before .before .word-of2 .ensures))
+    (word-kept (c .before .before .before .before .before .before .before .before .before .before .before .before .before .args .header .«leap_sign») (c .before .before .before .before .before .before .before .struct-told3 .given .1 .1 .1 .1 .0 .1) (c .before .before .before .before .before .before .word-of3 .ensures)))
+    (c .before .before .put-words .ensures)
 
 pub put-clock-spec : {M : Type 1} → statement M
 put-clock-spec =
     tie.close
     (tie.spec
-    cast-t7
-    slice-aggregate-put-numbers
-    put-numbers-requires
+    word-of-requires
+    word-of-requires-2
+    word-of-requires-3
+    cast-t8
     slice-aggregate-put-words
     put-words-requires
     same-length

@@ -7,12 +7,9 @@ use native.Mathlib.Nat.{sub-zero}
 use borrow.Author.Needs.{needs}
 use Rattle.layout.specs.Search.{find}
 use Rattle.layout.proofs.Laws.{find-hit, find-next, find-none}
-use Rattle.variable.specs.Roles.{unfilled, unfilledAt}
+use Rattle.variable.specs.Roles.{unfilledAt}
 use Rattle.variable.proofs.first_unfilled.Statement.{statement}
 use Rattle.variable.proofs.first_unfilled.Tie as tie
-use Rattle.variable.proofs.first_unfilled.Reads as reads
-use Rattle.variable.proofs.first_unfilled.Lts as lts
-use Rattle.variable.proofs.is_unfilled.Reads as is-unfilled-reads
 
 abbrev Inv-loop : tie.InvT-loop
 Inv-loop tallied totals entries roles counts sizes i₀ i =

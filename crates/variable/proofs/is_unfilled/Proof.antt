@@ -5,8 +5,6 @@ use Rattle.variable.proofs.Roles.{filled-below, filled-above, count-dif
 use borrow.Author.Needs.{needs}
 use Rattle.variable.proofs.is_unfilled.Statement.{statement}
 use Rattle.variable.proofs.is_unfilled.Tie as tie
-use Rattle.variable.proofs.is_unfilled.Reads as reads
-use Rattle.variable.proofs.is_unfilled.Lts as lts
 
 -- src/lib.rt:32:9
 returns : tie.Need-returns

@@ -1,16 +1,11 @@
 -- `variable::judge_described` meets its contract.
 -- Assumes nothing.
-use mathlib.Core.Path.{_≡_, sym, _∙_}
+use mathlib.Core.Path.{sym, _∙_}
 use native.Mathlib.Omega.{arith}
 use Rattle.variable.proofs.Described.{most-entries, count-fits, states-empty, size-refused, states-inside, bad-refused, states-good}
 use borrow.Author.Needs.{needs}
 use Rattle.variable.proofs.judge_described.Statement.{statement}
 use Rattle.variable.proofs.judge_described.Tie as tie
-use Rattle.variable.proofs.judge_described.Reads as reads
-use Rattle.variable.proofs.judge_described.Lts as lts
-use Rattle.layout.proofs.Verdict.refuse.Reads as refuse-reads
-use Rattle.variable.proofs.judge_filled.Reads as judge-filled-reads
-use Rattle.states.proofs.tally_states.Reads as tally-states-reads
 
 mul-if1 : tie.Need-mul-if1
 mul-if1 c = omega (arith, most-entries _ _ (c .before .before .pre .0))

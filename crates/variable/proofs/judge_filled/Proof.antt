@@ -1,16 +1,12 @@
 -- `variable::judge_filled` meets its contract.
 -- Assumes nothing.
-use mathlib.Core.Path.{_≡_, _∙_}
+use mathlib.Core.Path.{_∙_}
 use native.Mathlib.Omega.{arith}
 use Rattle.layout.specs.Answers.{verdictIs}
 use Rattle.variable.proofs.Roles.{all-filled, one-unfilled, unfilled-inside}
 use borrow.Author.Needs.{needs}
 use Rattle.variable.proofs.judge_filled.Statement.{statement}
 use Rattle.variable.proofs.judge_filled.Tie as tie
-use Rattle.variable.proofs.judge_filled.Reads as reads
-use Rattle.variable.proofs.judge_filled.Lts as lts
-use Rattle.layout.proofs.Verdict.refuse.Reads as refuse-reads
-use Rattle.variable.proofs.first_unfilled.Reads as first-unfilled-reads
 
 first-unfilled-requires : tie.Need-first-unfilled-requires
 first-unfilled-requires c κs = search needs

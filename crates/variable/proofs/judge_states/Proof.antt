@@ -1,6 +1,6 @@
 -- `variable::judge_states` meets its contract.
 -- Assumes nothing.
-use mathlib.Core.Path.{_≡_, sym, _∙_}
+use mathlib.Core.Path.{sym, _∙_}
 use native.Mathlib.Omega.{arith}
 use native.Mathlib.Nat.{sub-zero}
 use Rattle.layout.specs.Answers.{verdictIs}
@@ -8,11 +8,6 @@ use Rattle.variable.proofs.Described.{most-entries, no-variable, none-d
 use borrow.Author.Needs.{needs}
 use Rattle.variable.proofs.judge_states.Statement.{statement}
 use Rattle.variable.proofs.judge_states.Tie as tie
-use Rattle.variable.proofs.judge_states.Reads as reads
-use Rattle.variable.proofs.judge_states.Lts as lts
-use Rattle.layout.proofs.Verdict.refuse.Reads as refuse-reads
-use Rattle.variable.proofs.first_role.Reads as first-role-reads
-use Rattle.variable.proofs.judge_described.Reads as judge-described-reads
 
 first-role-requires : tie.Need-first-role-requires
 first-role-requires c κs = (omega arith, most-entries _ _ (c .before .before .before .pre))

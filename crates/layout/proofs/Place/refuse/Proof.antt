@@ -1,6 +1,6 @@
 -- `layout::Place::refuse` meets its contract.
 -- Assumes nothing.
-use mathlib.Core.Path.{_≡_, refl}
+use mathlib.Core.Path.{refl}
 use Rattle.layout.specs.Answers.{placeIs}
 use Rattle.layout.proofs.Place.refuse.Statement.{statement}
 use Rattle.layout.proofs.Place.refuse.Tie as tie

@@ -1,6 +1,6 @@
 -- `layout::Verdict::refuse` meets its contract.
 -- Assumes nothing.
-use mathlib.Core.Path.{_≡_, refl}
+use mathlib.Core.Path.{refl}
 use Rattle.layout.specs.Answers.{verdictIs}
 use Rattle.layout.proofs.Verdict.refuse.Statement.{statement}
 use Rattle.layout.proofs.Verdict.refuse.Tie as tie

@@ -1,4 +1,4 @@
--- `lister::put_values` meets its contract: the seven puts make the rest of the line.
+-- `listed::put_values` meets its contract: the seven puts make the rest of the line.
 -- Assumes nothing.
 use native.Mathlib.Omega.{arith}
 use borrow.Author.Needs.{needs}
@@ -6,9 +6,9 @@ use mir.Syntax.{w64}
 use mir.Val.{toZ, ofZ}
 use mir.Facts.{toZ-ofZ}
 use Rattle.writing.proofs.Puts.{then, spelled}
-use Rattle.lister.proofs.Lines.{values-line}
-use Rattle.lister.proofs.put_values.Statement.{statement}
-use Rattle.lister.proofs.put_values.Tie as tie
+use Rattle.listed.proofs.Lines.{values-line}
+use Rattle.listed.proofs.put_values.Statement.{statement}
+use Rattle.listed.proofs.put_values.Tie as tie
 
 put-byte-requires : tie.Need-put-byte-requires
 put-byte-requires c κs = search needs

@@ -1,11 +1,11 @@
--- `lister::put_entry` meets its contract, for a spare and for any other entry.
+-- `listed::put_entry` meets its contract, for a spare and for any other entry.
 -- Assumes nothing.
 use native.Mathlib.Omega.{arith}
 use borrow.Author.Needs.{needs}
 use Rattle.writing.proofs.Puts.{then, at-most, spelled}
-use Rattle.lister.proofs.Lines.{spare-line, named-line}
-use Rattle.lister.proofs.put_entry.Statement.{statement}
-use Rattle.lister.proofs.put_entry.Tie as tie
+use Rattle.listed.proofs.Lines.{spare-line, named-line}
+use Rattle.listed.proofs.put_entry.Statement.{statement}
+use Rattle.listed.proofs.put_entry.Tie as tie
 
 slice-aggregate-put-text : tie.Need-slice-aggregate-put-text
 slice-aggregate-put-text c = search needs

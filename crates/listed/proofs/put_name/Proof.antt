@@ -1,10 +1,10 @@
--- `lister::put_name` meets its contract: what is lent of the name is the name without its trailing blanks.
+-- `listed::put_name` meets its contract: what is lent of the name is the name without its trailing blanks.
 -- Assumes nothing.
 use borrow.Author.Needs.{needs}
-use Rattle.lister.proofs.Names.{name-lent, name-short}
+use Rattle.listed.proofs.Names.{name-lent, name-short}
 use Rattle.writing.proofs.Puts.{then, at-most, spelled}
-use Rattle.lister.proofs.put_name.Statement.{statement}
-use Rattle.lister.proofs.put_name.Tie as tie
+use Rattle.listed.proofs.put_name.Statement.{statement}
+use Rattle.listed.proofs.put_name.Tie as tie
 
 mul-start : tie.Need-mul-start
 mul-start c = search needs
