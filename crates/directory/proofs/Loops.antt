@@ -17,7 +17,7 @@ use Rattle.layout.specs.Search.{first, count, upto}
 use Rattle.layout.specs.Entries.{Entry, entries, entryAt, directory, start, extent, isData}
 use Rattle.layout.specs.Rules.{isDataAt}
 use Rattle.layout.specs.Answers.{padded, typeOf, countOf, recordSizeOf}
-use Rattle.layout.proofs.Laws.{orElse-assoc, orElse-accepted, first-step}
+use Rattle.layout.proofs.Laws.{orElse-assoc, orElse-accepted, first-step, upto-one-more}
 use Rattle.layout.proofs.Sound.{length-map-upto, length-directory, at-directory}
 use Rattle.dsd.specs.Held.{roleOf}
 use Rattle.directory.specs.Checks.{entriesTo, setsOf}
@@ -25,14 +25,10 @@ use Rattle.directory.specs.declared.Sets.{Sets}
 
 -- ---- the first entries
 
-upto-next : (i n : ℕ) → upto i (suc n) ≡ upto i n ++ ((i + n) ∷ [])
-upto-next i zero = rw (add-zero i)
-upto-next i (suc n) = ap (λ (l : List ℕ). i ∷ l) (upto-next (suc i) n ∙ (let q : suc i + n ≡ i + suc n = omega arith in rw q))
-
 pub to-next : (b : List ℕ) (i : ℕ) → entriesTo b (i + 1) ≡ entriesTo b i ++ (entryAt b i ∷ [])
 unfolding entriesTo
 to-next b i =
-    ap (λ (l : List ℕ). map (entryAt b) l) (ap (upto 0) (add-one i) ∙ upto-next 0 i ∙ ap (λ (k : ℕ). upto 0 i ++ (k ∷ [])) (zero-add i))
+    ap (λ (l : List ℕ). map (entryAt b) l) (upto-one-more i)
     ∙ map-append (entryAt b) (upto 0 i) (i ∷ [])
 
 pub length-to : (b : List ℕ) (i : ℕ) → length (entriesTo b i) ≡ i

@@ -2,34 +2,35 @@
 -- Assumes nothing.
 use Prim.Native.Nat.{ℕ, zero, suc, _+_, _*_, _-_, _<_}
 use mathlib.Core.Bool.{Bool, true, false, _&&_, _||_, not, and-false}
-use mathlib.Core.List.{List, map}
+use mathlib.Core.List.{List}
 use mathlib.Core.Logic.{_⊎_, inl, inr, ⊎-elim}
 use mathlib.Core.Path.{_≡_, refl, sym, ap, _∙_}
 use native.Mathlib.Omega.{arith}
 use lib.Dec.{T, ltb, eqb}
 use lib.IntN.{pos, negsuc}
 use lib.Signed.{leZ, ltZ}
-use lib.ListN.{length, drop, getD, replicate, length-drop, length-map, List·getD-append, List·getD-map}
+use lib.ListN.{length, drop, getD, length-drop}
 use lib.Seq.{length-take-le}
 use borrow.Author.Tests.{eq-eqb, ne-eqb, eqb-true, le-ltb}
 use Rattle.layout.specs.Bytes.{bytes, part, member}
-use Rattle.layout.specs.Text.{layout, lineClasses, valueClasses, valueWidth, quoteWidth, placeOf, widthOf, valueOf, digits, numberOf, whole}
-use Rattle.layout.specs.Lines.{mph, dsd}
+use Rattle.layout.specs.Text.{layout, lineClasses, valueClasses, valueWidth, quoteWidth, placeOf, widthOf, valueOf, whole}
+use Rattle.layout.specs.Lines.{mph}
 use Rattle.layout.specs.Answer.{Answer, accepted, refused, need, _orElse_}
-use Rattle.layout.specs.Answers.{verdictIs, padded}
+use Rattle.layout.specs.Answers.{verdictIs}
 use Rattle.layout.specs.declared.Verdict.{Verdict}
 use Rattle.layout.specs.Search.{first, count, laidOut}
 use Rattle.layout.specs.Sph.{sphLines}
 use Rattle.layout.specs.Entries.{Entry, eqZ, headerNumber, numDataSets, entries, dsdAt, dsdBytes, entryOf, entryAt, directory, at, start, extent, nonEmpty, isData, isReference, allZero, inRange, setFits, numbersFit}
 use Rattle.layout.specs.Rules.{linesOf, rule7At, rule7, rule8At, rule8, rule9At, rule9, rule10At, rule10, dataSets, rule11, rule12At, rule12, rule13At, rule13, rule14At, rule14}
 use Rattle.layout.proofs.Laws.{accepted≢refused, need-accepts, orElse-accepts, orElse-assoc, first-accepts-0}
+use Rattle.layout.proofs.Padded.{padded-at}
 use Rattle.layout.proofs.Sound.{length-directory, at-directory}
 use Rattle.layout.proofs.Types.{laidOut-typed}
 use Rattle.text.specs.Numbers.{numberIn}
 use Rattle.text.specs.declared.Number.{Number as HeldNumber}
 use Rattle.sets.specs.Sets.{Held}
 use Rattle.dsd.specs.Held.{numberFrom}
-use Rattle.directory.specs.Checks.{rules7to14, setsOf, Headers, Dsds, ReadAll, Listed}
+use Rattle.directory.specs.Checks.{rules7to14, setsOf, Headers, Dsds, ReadAll, Checked}
 use Rattle.directory.specs.declared.Sets.{Sets}
 use Rattle.directory.specs.declared.Reading.{Reading}
 use Rattle.dsd.proofs.Numbers.{is-zero, above, from-zero, equals, both-pass}
@@ -134,13 +135,6 @@ module _ (e : Entry) (fit : numbersFit e ≡ true) where
 
 -- what the arrays hold where rules 8 and 10 accept
 module _ (b : List ℕ) (sets : Sets) (read : sets ≡ setsOf (directory b)) (m : ℕ) (eight : rule8 b m ≡ accepted) (ten : rule10 b m ≡ accepted) where
-  in-array : (f : Entry → ℕ) (i : ℕ) → i < length (directory b) → f (entryOf (replicate 280 32)) ≡ 0 → getD (padded 128 0 (map f (directory b))) i 0 ≡ f (at (directory b) i)
-  unfolding padded at
-  in-array f i l z =
-      List·getD-append (map f (directory b)) (replicate (128 - length (map f (directory b))) 0) 0 i (omega (arith, length-map (directory b) f))
-      ∙ ap (getD (map f (directory b)) i) (sym z)
-      ∙ List·getD-map f (directory b) i (entryOf (replicate 280 32))
-
   entry-sized : (i : ℕ) → i < length (directory b) → nonEmpty (at (directory b) i) ≡ ltb 0 (extent (at (directory b) i))
   unfolding rule8 rule8At rule10 rule10At entryAt
   entry-sized i l =
@@ -154,11 +148,11 @@ module _ (b : List ℕ) (sets : Sets) (read : sets ≡ setsOf (directory b)) (m 
       true-of false h = absurd h
 
   pub held : Held (directory b) (sets .offsets) (sets .sizes)
-  unfolding setsOf start extent entryOf valueOf placeOf widthOf dsd lineClasses valueClasses quoteWidth valueWidth part numberOf digits
+  unfolding setsOf
   held =
       record {
-        starts = λ i l. ap (λ (s : Sets). getD (s .offsets) i 0) read ∙ in-array start i l refl;
-        extents = λ i l. ap (λ (s : Sets). getD (s .sizes) i 0) read ∙ in-array extent i l refl;
+        starts = λ i l. ap (λ (s : Sets). getD (s .offsets) i 0) read ∙ padded-at start 0 128 (directory b) i l;
+        extents = λ i l. ap (λ (s : Sets). getD (s .sizes) i 0) read ∙ padded-at extent 0 128 (directory b) i l;
         filled = entry-sized;
       }
 
@@ -182,7 +176,7 @@ module _ (b : List ℕ) (n : ℕ) where
       ∙ ap (λ (a : Answer). rule7 b n orElse (rule8 b n orElse (rule9 b n orElse a))) (orElse-assoc (rule10 b n) (rule11 b n) places))
 
   -- a verdict that refuses
-  pub stopped : (r : Verdict) (sets : Sets) {m p e : ℕ} → rules7to14 b n ≡ refused m p e → verdictIs r ≡ refused m p e → Listed b n r sets
+  pub stopped : (r : Verdict) (sets : Sets) {m p e : ℕ} → rules7to14 b n ≡ refused m p e → verdictIs r ≡ refused m p e → Checked b n r sets
   stopped r sets q h = record { verdict = h ∙ sym q; read = λ a. absurd (accepted≢refused (sym a ∙ q)) }
 
   module _ {m p e : ℕ} where
@@ -198,7 +192,7 @@ module _ (b : List ℕ) (n : ℕ) where
         stop-numbers h = rules-split ∙ rw (a, o, ← h)
 
   -- the last verdict, of rules 12 to 14
-  pub passed : (r : Verdict) (sets : Sets) → text ≡ accepted → rule9 b n ≡ accepted → numbers ≡ accepted → verdictIs r ≡ places → sets ≡ setsOf (directory b) → Listed b n r sets
+  pub passed : (r : Verdict) (sets : Sets) → text ≡ accepted → rule9 b n ≡ accepted → numbers ≡ accepted → verdictIs r ≡ places → sets ≡ setsOf (directory b) → Checked b n r sets
   passed r sets a o k h s = record { verdict = h ∙ sym (rules-split ∙ rw (a, o, k)); read = λ q. s }
 
 -- ---- what a reading gives of rules 9 to 11, and the numbers of rules 12 to 14

@@ -79,6 +79,6 @@ pub record ReadAll (b : List ℕ) (dsds n : ℕ) (r : Reading) (sets : Sets) : T
   pub read : first (rule9At b) 0 n ≡ accepted → sets ≡ setsOf (directory b)
 
 -- the check of a product of n bytes, with the numbers read; where a rule refuses, nothing of the numbers
-pub record Listed (b : List ℕ) (n : ℕ) (r : Verdict) (sets : Sets) : Type 0 where
+pub record Checked (b : List ℕ) (n : ℕ) (r : Verdict) (sets : Sets) : Type 0 where
   pub verdict : verdictIs r ≡ rules7to14 b n
   pub read : rules7to14 b n ≡ accepted → sets ≡ setsOf (directory b)

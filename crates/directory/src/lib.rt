@@ -15,7 +15,7 @@ ghost use Rattle.layout.specs.Rules.{rule7, rule8At, rule8, rule12At, rule13At,
 ghost use Rattle.layout.specs.Search.{first, join};
 ghost use Rattle.layout.specs.Text.{whole};
 ghost use Rattle.sets.specs.Sets.{Held};
-ghost use Rattle.directory.specs.Checks.{together, setsOf, noSets, Headers, Dsds, ReadAll, Listed};
+ghost use Rattle.directory.specs.Checks.{together, setsOf, noSets, Headers, Dsds, ReadAll, Checked};
 
 // The numbers and roles of up to 128 entries held together, unused places zero.
 pub struct Sets {
@@ -236,7 +236,7 @@ fn check_sets(
     roles: &mut [u8; 128],
 ) -> layout::Verdict
     requires { ⌜ Headers (now p) «headers_end» entries × ((rule7 (now p) length orElse rule8 (now p) length) ≡ accepted) × (together 0 (now types) (now offsets) (now sizes) (now counts) (now «record_sizes») (now roles) ≡ noSets) ⌝ }
-    ensures { λ r. ⌜ Listed (now (p .entry)) length r (together entries (now (types .exit)) (now (offsets .exit)) (now (sizes .exit)) (now (counts .exit)) (now («record_sizes» .exit)) (now (roles .exit))) ⌝ }
+    ensures { λ r. ⌜ Checked (now (p .entry)) length r (together entries (now (types .exit)) (now (offsets .exit)) (now (sizes .exit)) (now (counts .exit)) (now («record_sizes» .exit)) (now (roles .exit))) ⌝ }
 {
     let dsds = headers_end - Entry::SIZE * entries;
     let reading = read_sets(
@@ -275,7 +275,7 @@ pub fn check_directory(
     roles: &mut [u8; 128],
 ) -> layout::Verdict
     requires { ⌜ Headers (now p) «headers_end» entries × (together 0 (now types) (now offsets) (now sizes) (now counts) (now «record_sizes») (now roles) ≡ noSets) ⌝ }
-    ensures { λ r. ⌜ Listed (now (p .entry)) length r (together entries (now (types .exit)) (now (offsets .exit)) (now (sizes .exit)) (now (counts .exit)) (now («record_sizes» .exit)) (now (roles .exit))) ⌝ }
+    ensures { λ r. ⌜ Checked (now (p .entry)) length r (together entries (now (types .exit)) (now (offsets .exit)) (now (sizes .exit)) (now (counts .exit)) (now («record_sizes» .exit)) (now (roles .exit))) ⌝ }
 {
     let text = check_text(p, headers_end - Entry::SIZE * entries, entries);
     if let layout::Verdict::Refused(refusal) = text {

@@ -16,7 +16,7 @@ use lib.Seq.{drop-cons}
 use borrow.Author.Tests.{leb-true, leb-false, eq-eqb, ne-eqb}
 use Rattle.layout.specs.Text.{Class, fits}
 use Rattle.layout.specs.Answer.{Answer, accepted, refused, need, where′, _orElse_}
-use Rattle.layout.specs.Search.{first, some, count, find, laidOut}
+use Rattle.layout.specs.Search.{first, some, count, find, laidOut, upto}
 use Rattle.layout.specs.Entries.{eqZ}
 
 pub lt-or-le : (a b : ℕ) → (a < b) ⊎ (b ≤ a)
@@ -379,3 +379,12 @@ module _ (t : ℕ → Bool) where
           → (need (not u) k (place i) i orElse first f (suc i) n) ≡ need (eqb (cond u i (find t (suc i) n)) (i + suc n)) k (place (cond u i (find t (suc i) n))) (cond u i (find t (suc i) n))
       go true below = rw (ne-eqb i (i + suc n) (λ e. omega arith))
       go false below = let q : i + suc n ≡ suc i + n = omega arith in rw q below
+
+-- ---- numbers in a row, one more at the end
+
+upto-next : (i n : ℕ) → upto i (suc n) ≡ upto i n ++ (i + n) ∷ []
+upto-next i zero = rw add-zero
+upto-next i (suc n) = ap (λ (l : List ℕ). i ∷ l) (upto-next (suc i) n ∙ rw (suc-add i n, add-suc i n))
+
+pub upto-one-more : (n : ℕ) → upto 0 (n + 1) ≡ upto 0 n ++ n ∷ []
+upto-one-more n = ap (upto 0) (add-one n) ∙ upto-next 0 n ∙ ap (λ (k : ℕ). upto 0 n ++ k ∷ []) (zero-add n)

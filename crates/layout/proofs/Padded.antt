@@ -9,7 +9,7 @@ use lib.ListN.{length, getD, replicate, List·getD-append, length-map}
 use Rattle.layout.specs.Entries.{Entry, at}
 use Rattle.layout.specs.Answers.{padded}
 
-getD-map : {A B : Type 0} (f : A → B) (l : List A) (i : ℕ) (z : B) (d : A) → i < length l → getD (map f l) i z ≡ f (getD l i d)
+pub getD-map : {A B : Type 0} (f : A → B) (l : List A) (i : ℕ) (z : B) (d : A) → i < length l → getD (map f l) i z ≡ f (getD l i d)
 getD-map f [] i z d h = absurd (not-suc-le-zero h)
 getD-map f (x ∷ l) zero z d h = refl
 getD-map f (x ∷ l) (suc i) z d h = getD-map f l i z d (le-of-suc-le-suc h)

@@ -1,28 +1,14 @@
--- The laws of a directory's arrays: what stands at the place of an entry.
+-- Names of one width, one after the other: what stands at the place of an entry.
 -- Assumes nothing.
 use Prim.Native.Nat.{ℕ, zero, suc, _+_, _*_, _-_, _<_}
-use mathlib.Core.Path.{_≡_, refl, _∙_}
-use mathlib.Core.List.{List, [], _∷_, _++_, map, append-assoc}
+use mathlib.Core.Path.{_≡_, _∙_}
+use mathlib.Core.List.{List, [], _∷_, _++_, append-assoc}
 use native.Mathlib.Omega.{arith}
 use native.Mathlib.Nat.{not-suc-le-zero, le-of-suc-le-suc, mul-zero, mul-suc}
-use lib.ListN.{length, take, drop, getD, replicate, length-map, List·getD-append}
+use lib.ListN.{length, take, drop, getD}
 use lib.Seq.{take-at, drop-append-add}
 use Rattle.layout.specs.Search.{join}
-use Rattle.layout.specs.Answers.{padded}
 
-pub map-at : {A B : Type 0} (f : A → B) (l : List A) (i : ℕ) (d : A) (e : B) → i < length l → getD (map f l) i e ≡ f (getD l i d)
-map-at f [] i d e h = absurd (not-suc-le-zero h)
-map-at f (x ∷ l) zero d e h = refl
-map-at f (x ∷ l) (suc i) d e h = map-at f l i d e (le-of-suc-le-suc h)
-
--- an array holds a value of each entry
-pub held-at : {A B : Type 0} (f : A → B) (l : List A) (n i : ℕ) (d : A) (e : B) → i < length l → getD (padded n e (map f l)) i e ≡ f (getD l i d)
-unfolding padded
-held-at f l n i d e h =
-    let m : i < length (map f l) = omega (arith, length-map l f) in
-    List·getD-append (map f l) (replicate (n - length (map f l)) e) e i m ∙ map-at f l i d e h
-
--- texts of one width, one after the other
 pub text-at : (ls : List (List ℕ)) (w i : ℕ) (rest : List ℕ) → i < length ls → ((k : ℕ) → k < length ls → length (getD ls k []) ≡ w)
     → take w (drop (w * i) (join ls ++ rest)) ≡ getD ls i []
 text-at [] w i rest h all = absurd (not-suc-le-zero h)

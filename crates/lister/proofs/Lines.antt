@@ -1,10 +1,8 @@
 -- The laws of the listing's lines: how the words that are put one after the other make a line.
 -- Assumes nothing.
-use Prim.Native.Nat.{ℕ, zero, suc, _+_}
+use Prim.Native.Nat.{ℕ, _+_}
 use mathlib.Core.Path.{_≡_, refl, ap, _∙_}
 use mathlib.Core.List.{List, [], _∷_, _++_, map, append-assoc, append-nil}
-use native.Mathlib.Nat.{add-zero, zero-add, add-suc, suc-add}
-use native.Mathlib.Numerals.{add-one}
 use lib.IntN.{ℤ, pos}
 use lib.ListN.{getD}
 use lib.Seq.{append-snoc}
@@ -12,6 +10,7 @@ use Rattle.layout.specs.Bytes.{bytes}
 use Rattle.layout.specs.Search.{upto, join}
 use Rattle.layout.specs.Listing.{decimal, lineOf}
 use Rattle.layout.specs.Answers.{verdictIs}
+use Rattle.layout.proofs.Laws.{upto-one-more}
 use Rattle.layout.specs.declared.Directory.{Directory}
 use Rattle.layout.specs.declared.Refusal.{Refusal}
 use Rattle.layout.specs.declared.Verdict.{Verdict}
@@ -21,10 +20,6 @@ use Rattle.lister.specs.Lines.{listedOf, entryTextAt, entryTexts, refusa
 use Rattle.layout.specs.declared.Verdict.the-variants as cases
 
 -- ---- all entries
-
-upto-more : (i n : ℕ) → upto i (suc n) ≡ upto i n ++ (i + n) ∷ []
-upto-more i zero = rw add-zero
-upto-more i (suc n) = ap (λ (l : List ℕ). i ∷ l) (upto-more (suc i) n ∙ rw (suc-add i n, add-suc i n))
 
 join-more : (f : ℕ → List ℕ) (l : List ℕ) (k : ℕ) → join (map f (l ++ k ∷ [])) ≡ join (map f l) ++ f k
 join-more f [] k = append-nil (f k)
@@ -37,7 +32,7 @@ module _ (d : Directory) where
 
   pub texts-more : (n : ℕ) → entryTexts d (n + 1) ≡ entryTexts d n ++ entryTextAt d n
   unfolding entryTexts
-  texts-more n = ap (λ (l : List ℕ). join (map (entryTextAt d) l)) (ap (upto 0) (add-one n) ∙ upto-more 0 n ∙ ap (λ (k : ℕ). upto 0 n ++ k ∷ []) (zero-add n)) ∙ join-more (entryTextAt d) (upto 0 n) n
+  texts-more n = ap (λ (l : List ℕ). join (map (entryTextAt d) l)) (upto-one-more n) ∙ join-more (entryTextAt d) (upto 0 n) n
 
   -- the line of what is read of entry i
   pub read-line : (i : ℕ) (z : ℤ) → z ≡ getD (d .«record_sizes») i (pos 0)

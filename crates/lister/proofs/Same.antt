@@ -21,13 +21,14 @@ use Rattle.layout.specs.Entries.{Entry, headersEnd, entries, dsdAt, dsdBytes, e
 use Rattle.layout.specs.Rules.{verdict}
 use Rattle.layout.specs.Listing.{decimal, signedDecimal, trimmed, lineOf, entryLine, acceptedLines, listingFor, listing}
 use Rattle.layout.specs.Answers.{padded, typeOf, nameOf, countOf, recordSizeOf, directoryOf, directoryFor, noDirectory}
+use Rattle.layout.proofs.Padded.{getD-map, padded-at}
 use Rattle.layout.proofs.Types.{Typed}
 use Rattle.layout.proofs.Faults.{NumbersFit}
 use Rattle.layout.proofs.Sound.{Sound, sound, length-directory, at-directory, last-of-four}
 use Rattle.listed.specs.declared.Listed.{Listed}
 use Rattle.listed.specs.Line.{nameAt, valueWords, entryText}
 use Rattle.lister.specs.Lines.{listedOf, entryTextAt, entryTexts, acceptedText, refusalText, listingOf, longerText}
-use Rattle.lister.proofs.Held.{held-at, map-at, text-at}
+use Rattle.lister.proofs.Held.{text-at}
 
 -- ---- numbers
 
@@ -85,23 +86,22 @@ module _ (ds : List Entry) (i : ℕ) (l : i < length ds) (wide : (k : ℕ) → k
   name-same =
       let none = entryOf (replicate 280 32) in
       text-at (map nameOf ds) 28 i (replicate (3584 - length (join (map nameOf ds))) 0) (omega (arith, length-map ds nameOf))
-      (λ k h. let m : k < length ds = omega (arith, length-map ds nameOf) in ap length (map-at nameOf ds k none [] m) ∙ wide k m)
-      ∙ map-at nameOf ds i none [] l
+      (λ k h. let m : k < length ds = omega (arith, length-map ds nameOf) in ap length (getD-map nameOf ds k [] none m) ∙ wide k m)
+      ∙ getD-map nameOf ds i [] none l
 
   abbrev listed : Entry → Listed
   listed e = record { number = i; «ds_type» = e .type; offset = start e; size = extent e; count = countOf e; «record_size» = recordSizeOf e }
 
   listed-same : listedOf (directoryOf ds) i ≡ listed (at ds i)
-  unfolding listedOf directoryOf at
+  unfolding listedOf directoryOf
   listed-same =
-      let none = entryOf (replicate 280 32) in
       λ j. record {
         number = i;
-        «ds_type» = held-at typeOf ds 128 i none 0 l j;
-        offset = held-at start ds 128 i none 0 l j;
-        size = held-at extent ds 128 i none 0 l j;
-        count = held-at countOf ds 128 i none 0 l j;
-        «record_size» = held-at recordSizeOf ds 128 i none (pos 0) l j;
+        «ds_type» = padded-at typeOf 0 128 ds i l j;
+        offset = padded-at start 0 128 ds i l j;
+        size = padded-at extent 0 128 ds i l j;
+        count = padded-at countOf 0 128 ds i l j;
+        «record_size» = padded-at recordSizeOf (pos 0) 128 ds i l j;
       }
 
   -- a line's words behind the entry's number

@@ -16,7 +16,7 @@ use Rattle.layout.specs.declared.Verdict.the-variants.{Accepted, Refused}
 use Rattle.layout.proofs.Laws.{orElse-assoc, orElse-accepts, orElse-accepted, accepted≢refused}
 use Rattle.header.specs.Checks.{rules1to6, HeaderChecked}
 use Rattle.header.specs.declared.HeaderCheck.{HeaderCheck}
-use Rattle.directory.specs.Checks.{rules7to14, Headers, Listed}
+use Rattle.directory.specs.Checks.{rules7to14, Headers, Checked}
 use Rattle.directory.specs.declared.Sets.{Sets}
 use Rattle.variable.specs.Roles.{Laid}
 use Rattle.opening.specs.Opening.{Judged, closed, Opened}
@@ -64,7 +64,7 @@ module _ (b : List ℕ) where
           let fit = checked .headers six in
           record { ends = fit .end-is; all = fit .entries-are; most = fit .entries-most; room = fit .dsds-fit; inside = fit .inside }
 
-  module _ (good : rules1to6 b (length b) ≡ accepted) (found : Verdict) (numbers : Sets) (checked : Listed b (length b) found numbers) where
+  module _ (good : rules1to6 b (length b) ≡ accepted) (found : Verdict) (numbers : Sets) (checked : Checked b (length b) found numbers) where
     pub directory-refused : (r : Refusal) → found ≡ Refused r → Judged b (Refused r) numbers
     unfolding verdictIs
     directory-refused r h =
