@@ -21,7 +21,7 @@ use Rattle.layout.specs.declared.Verdict.{Verdict}
 use Rattle.layout.specs.Search.{first, count, laidOut}
 use Rattle.layout.specs.Sph.{sphLines}
 use Rattle.layout.specs.Entries.{Entry, eqZ, headerNumber, numDataSets, entries, dsdAt, dsdBytes, entryOf, entryAt, directory, at, start, extent, nonEmpty, isData, isReference, allZero, inRange, setFits, numbersFit}
-use Rattle.layout.specs.Rules.{linesOf, rule7At, rule7, rule8At, rule8, rule9At, rule9, rule10At, rule10, dataSets, rule11, rule12At, rule12, rule13At, rule13, rule14At, rule14}
+use Rattle.layout.specs.Rules.{linesOf, rule7At, rule7, rule8At, rule8, rule9At, rule9, rule10At, rule10, dataSets, rule11, rule12At, rule12, rule13At, rule13, rule14At, rule14, rules7to14}
 use Rattle.layout.proofs.Laws.{accepted≢refused, need-accepts, orElse-accepts, orElse-assoc, first-accepts-0}
 use Rattle.layout.proofs.Padded.{padded-at}
 use Rattle.layout.proofs.Sound.{length-directory, at-directory}
@@ -30,7 +30,7 @@ use Rattle.text.specs.Numbers.{numberIn}
 use Rattle.text.specs.declared.Number.{Number as HeldNumber}
 use Rattle.sets.specs.Sets.{Held}
 use Rattle.dsd.specs.Held.{numberFrom}
-use Rattle.directory.specs.Checks.{rules7to14, setsOf, Headers, Dsds, ReadAll, Checked}
+use Rattle.directory.specs.Checks.{setsOf, Headers, Dsds, ReadAll, Checked}
 use Rattle.directory.specs.declared.Sets.{Sets}
 use Rattle.directory.specs.declared.Reading.{Reading}
 use Rattle.dsd.proofs.Numbers.{is-zero, above, from-zero, equals, both-pass}

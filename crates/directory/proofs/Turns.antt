@@ -11,7 +11,7 @@ use Rattle.layout.specs.Bytes.{part}
 use Rattle.layout.specs.Text.{layout}
 use Rattle.layout.specs.Answer.{accepted, refused, need, _orElse_}
 use Rattle.layout.specs.Search.{laidOut}
-use Rattle.layout.specs.Entries.{most, dsdAt, dsdBytes, entryOf, entryAt, numbersFit}
+use Rattle.layout.specs.Entries.{largestSigned, dsdAt, dsdBytes, entryOf, entryAt, numbersFit}
 use Rattle.layout.specs.Rules.{linesOf, rule8At, rule9At, rule10At}
 use Rattle.dsd.specs.declared.Entry.{Entry as HeldEntry}
 use Rattle.dsd.specs.Held.{numberFrom, heldOf, viewOf, overPlace, Read}
@@ -43,7 +43,7 @@ module _ (b : List ℕ) (dsds n i : ℕ) (placed : Dsds b dsds n) (h : HeldEntry
   unfolding rule9At overPlace viewOf numberFrom heldOf
   nine =
       rw (held-of, place b dsds n i placed, capped-test (entryAt b i .offset .magnitude), capped-test (entryAt b i .size .magnitude))
-      (go (leb (entryAt b i .offset .magnitude) most) (leb (entryAt b i .size .magnitude) most))
+      (go (leb (entryAt b i .offset .magnitude) largestSigned) (leb (entryAt b i .size .magnitude) largestSigned))
     where
       go : (t u : Bool) → (need t 9 (dsdAt b i + 133) i orElse need u 9 (dsdAt b i + 170) i)
           ≡ need (eqb (cond t (cond u 0 170) 133) 0) 9 (dsdAt b i + cond t (cond u 0 170) 133) i

@@ -6,26 +6,15 @@ use mathlib.Core.Path.{_≡_}
 use lib.Dec.{eqb}
 use lib.IntN.{ℤ, pos}
 use lib.ListN.{length, replicate}
-use Rattle.layout.specs.Answer.{Answer, accepted, need, _orElse_}
+use Rattle.layout.specs.Answer.{accepted, need}
 use Rattle.layout.specs.Search.{first, count, upto}
 use Rattle.layout.specs.Entries.{Entry, headersEnd, entries, dsdAt, entryAt, directory, start, extent}
-use Rattle.layout.specs.Rules.{rule7, rule8, rule9At, rule9, rule10At, rule10, isDataAt, rule11, rule12, rule13, rule14}
+use Rattle.layout.specs.Rules.{rule9At, rule10At, isDataAt, rules7to14}
 use Rattle.layout.specs.Answers.{padded, typeOf, countOf, recordSizeOf, verdictIs}
 use Rattle.directory.specs.declared.Sets.{Sets}
 use Rattle.directory.specs.declared.Reading.{Reading}
 use Rattle.layout.specs.declared.Verdict.{Verdict}
 use Rattle.dsd.specs.Held.{roleOf}
-
-unfoldable pub rules7to14 : List ℕ → ℕ → Answer
-rules7to14 b n =
-    rule7 b n
-    orElse rule8 b n
-    orElse rule9 b n
-    orElse rule10 b n
-    orElse rule11 b n
-    orElse rule12 b n
-    orElse rule13 b n
-    orElse rule14 b n
 
 -- ---- the numbers of a directory's entries
 

@@ -10,7 +10,7 @@ use lib.Dec.{leb}
 use borrow.Author.Tests.{le-leb, lt-leb, leb-true}
 use Rattle.layout.specs.Bytes.{bytes}
 use Rattle.layout.specs.Text.{whole}
-use Rattle.layout.specs.Entries.{Entry, most, called, start, extent, kindOf, isData, isReference, isVariable, isStates, allZero, inRange, isFixed, setFits, numbersFit}
+use Rattle.layout.specs.Entries.{Entry, largestSigned, called, start, extent, kindOf, isData, isReference, isVariable, isStates, allZero, inRange, isFixed, setFits, numbersFit}
 use Rattle.layout.specs.Answers.{typeOf, countOf, recordSizeOf}
 use Rattle.layout.proofs.Laws.{lt-or-le}
 use Rattle.text.specs.Numbers.{capped, wholeIn}
@@ -20,17 +20,17 @@ use Rattle.dsd.proofs.Names.{kind-role, states-role, role-again}
 
 -- ---- numbers held at 2^63
 
-pub capped-test : (m : ℕ) → leb (capped m) most ≡ leb m most
+pub capped-test : (m : ℕ) → leb (capped m) largestSigned ≡ leb m largestSigned
 unfolding capped
-capped-test m = go (lt-or-le most m)
+capped-test m = go (lt-or-le largestSigned m)
   where
-    go : (most < m) ⊎ (m ≤ most) → leb (capped m) most ≡ leb m most
-    go (inl h) = rw (lt-leb m most h) (lt-leb (capped m) most (omega arith))
-    go (inr h) = rw (le-leb m most h) (le-leb (capped m) most (omega arith))
+    go : (largestSigned < m) ⊎ (m ≤ largestSigned) → leb (capped m) largestSigned ≡ leb m largestSigned
+    go (inl h) = rw (lt-leb m largestSigned h) (lt-leb (capped m) largestSigned (omega arith))
+    go (inr h) = rw (le-leb m largestSigned h) (le-leb (capped m) largestSigned (omega arith))
 
-capped-same : (m : ℕ) → leb (capped m) most ≡ true → capped m ≡ m
+capped-same : (m : ℕ) → leb (capped m) largestSigned ≡ true → capped m ≡ m
 unfolding capped
-capped-same m h = let l = leb-true (capped m) most h in omega arith
+capped-same m h = let l = leb-true (capped m) largestSigned h in omega arith
 
 over-none : (t u : Bool) → _≡_ {A = ℕ} (cond t (cond u 0 170) 133) 0 → (t ≡ true) × (u ≡ true)
 over-none true true h = (refl, refl)
@@ -39,7 +39,7 @@ over-none false u h = absurd (omega arith)
 
 pub over-most : (e : Entry) {r : ℕ} → r ≡ overPlace e → r ≤ 170
 unfolding overPlace
-over-most e h = go (leb (e .offset .magnitude) most) (leb (e .size .magnitude) most) h
+over-most e h = go (leb (e .offset .magnitude) largestSigned) (leb (e .size .magnitude) largestSigned) h
   where
     go : (t u : Bool) {r : ℕ} → r ≡ cond t (cond u 0 170) 133 → r ≤ 170
     go true true h = omega arith
@@ -77,11 +77,11 @@ module _ (e : Entry) where
   module _ (ok : overPlace (viewOf (heldOf e)) ≡ 0) where
     offset-held : capped (e .offset .magnitude) ≡ e .offset .magnitude
     unfolding overPlace viewOf heldOf numberFrom
-    offset-held = capped-same (e .offset .magnitude) (over-none (leb (capped (e .offset .magnitude)) most) (leb (capped (e .size .magnitude)) most) ok .0)
+    offset-held = capped-same (e .offset .magnitude) (over-none (leb (capped (e .offset .magnitude)) largestSigned) (leb (capped (e .size .magnitude)) largestSigned) ok .0)
 
     size-held : capped (e .size .magnitude) ≡ e .size .magnitude
     unfolding overPlace viewOf heldOf numberFrom
-    size-held = capped-same (e .size .magnitude) (over-none (leb (capped (e .offset .magnitude)) most) (leb (capped (e .size .magnitude)) most) ok .1)
+    size-held = capped-same (e .size .magnitude) (over-none (leb (capped (e .offset .magnitude)) largestSigned) (leb (capped (e .size .magnitude)) largestSigned) ok .1)
 
     view : viewOf (heldOf e) ≡ by-role
     unfolding viewOf heldOf numberFrom

@@ -8,7 +8,7 @@ use mathlib.Core.Path.{_≡_}
 use lib.Dec.{leb, eqb}
 use Rattle.layout.specs.Bytes.{bytes, part}
 use Rattle.layout.specs.Text.{Number}
-use Rattle.layout.specs.Entries.{Entry, entryOf, called, kindOf, isVariable, isStates, most}
+use Rattle.layout.specs.Entries.{Entry, entryOf, called, kindOf, isVariable, isStates, largestSigned}
 use Rattle.text.specs.Numbers.{capped}
 use Rattle.text.specs.declared.Number.{Number as HeldNumber}
 use Rattle.dsd.specs.declared.Entry.{Entry as HeldEntry}
@@ -28,7 +28,7 @@ roleOf e = cond (isVariable e) (kindOf e) (cond (isStates e) 5 0)
 
 -- where in the DSD the number stands that passes 2^63 - 1, DS_OFFSET before DS_SIZE; or 0
 unfoldable pub overPlace : Entry → ℕ
-overPlace e = cond (leb (e .offset .magnitude) most) (cond (leb (e .size .magnitude) most) 0 170) 133
+overPlace e = cond (leb (e .offset .magnitude) largestSigned) (cond (leb (e .size .magnitude) largestSigned) 0 170) 133
 
 -- ---- what is held of an entry: the numbers that rule 9 looks at are held at 2^63
 

@@ -17,7 +17,7 @@ use Rattle.layout.specs.Lines.{mph}
 use Rattle.layout.specs.Answer.{Answer, accepted, refused, need, _orElse_}
 use Rattle.layout.specs.Search.{laidOut}
 use Rattle.layout.specs.Entries.{eqZ, withinZ, totSize, sphSize, numDsd, dsdSize, headersEnd, entries}
-use Rattle.layout.specs.Rules.{rule1, rule2, rule3, rule4, rule5, rule6, sphFits, dsdsFit}
+use Rattle.layout.specs.Rules.{rule1, rule2, rule3, rule4, rule5, rule6, sphFits, dsdsFit, rules1to6}
 use Rattle.layout.specs.Answers.{verdictIs}
 use Rattle.layout.specs.declared.Refusal.{Refusal}
 use Rattle.layout.specs.declared.Verdict.{Verdict}
@@ -25,7 +25,7 @@ use Rattle.layout.specs.declared.Verdict.the-variants.{Accepted, Refused}
 use Rattle.layout.proofs.Laws.{and-T, leb-T, accepted≢refused, need-accepts, orElse-accepts, orElse-assoc}
 use Rattle.text.specs.Numbers.{numberIn, wholeIn}
 use Rattle.text.proofs.Laws.{magnitude-test, whole-true}
-use Rattle.header.specs.Checks.{lengthRules, totalRules, rules1to6, HeadersFit}
+use Rattle.header.specs.Checks.{lengthRules, totalRules, HeadersFit}
 use Rattle.header.specs.declared.HeaderCheck.{HeaderCheck}
 use Rattle.values.proofs.Places.{total-at, sph-at, dsds-at, dsd-size-at, headers-end-at, entries-at}
 use Rattle.values.proofs.Values.{kept}

@@ -5,7 +5,7 @@ use mathlib.Core.List.{List, []}
 use mathlib.Core.Path.{_≡_}
 use Rattle.layout.specs.Answer.{Answer, accepted, _orElse_}
 use Rattle.layout.specs.Entries.{headersEnd, entries}
-use Rattle.layout.specs.Rules.{rule1, rule2, rule3, rule4, rule5, rule6}
+use Rattle.layout.specs.Rules.{rule1, rule2, rule4, rule5, rules1to6}
 use Rattle.layout.specs.Answers.{verdictIs}
 use Rattle.header.specs.declared.HeaderCheck.{HeaderCheck}
 
@@ -15,9 +15,6 @@ lengthRules n = rule1 [] n orElse rule2 [] n
 
 unfoldable pub totalRules : List ℕ → ℕ → Answer
 totalRules b n = rule4 b n orElse rule5 b n
-
-unfoldable pub rules1to6 : List ℕ → ℕ → Answer
-rules1to6 b n = rule1 b n orElse rule2 b n orElse rule3 b n orElse rule4 b n orElse rule5 b n orElse rule6 b n
 
 -- where the headers end and how many directory entries there are: inside the product, with room for the DSDs
 pub record HeadersFit (b : List ℕ) (n : ℕ) (r : HeaderCheck) : Type 0 where

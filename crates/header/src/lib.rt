@@ -9,9 +9,9 @@ ghost use Rattle.layout.specs.Lines.{mph};
 ghost use Rattle.layout.specs.Answer.{refused};
 ghost use Rattle.layout.specs.Search.{laidOut};
 ghost use Rattle.layout.specs.Entries.{withinZ};
-ghost use Rattle.layout.specs.Rules.{sphFits, dsdsFit, rule6};
+ghost use Rattle.layout.specs.Rules.{sphFits, dsdsFit, rule6, rules1to6};
 ghost use Rattle.layout.specs.Answers.{verdictIs};
-ghost use Rattle.header.specs.Checks.{lengthRules, totalRules, rules1to6, HeaderChecked};
+ghost use Rattle.header.specs.Checks.{lengthRules, totalRules, HeaderChecked};
 
 // A refusal that is of no entry.
 fn refuse(number: u8, place: u64) -> layout::Verdict

@@ -13,11 +13,11 @@ use Rattle.layout.specs.Bytes.{part}
 use Rattle.layout.specs.Text.{Number, layout, lineClasses, valueClasses, valueWidth, quoteWidth, placeOf, widthOf, valueOf, numberOf}
 use Rattle.layout.specs.Lines.{mph}
 use Rattle.layout.specs.Answer.{Answer, accepted, refused, none, _orElse_}
-use Rattle.layout.specs.Search.{first, upto, firstRule, laidOut}
+use Rattle.layout.specs.Search.{first, upto, laidOut}
 use Rattle.layout.specs.Entries.{headerNumber, totSize, sphSize, numDsd, dsdSize, numDataSets, headersEnd, entries, dsdAt, dsdBytes, entryAt, directory}
 use Rattle.layout.specs.Sph.{sphLines}
 use Rattle.layout.specs.States.{Tally, statesOf, tallyOf}
-use Rattle.layout.specs.Rules.{rule1, rule2, rule3, rule4, rule5, rule6, sphFits, dsdsFit, rule7, rule8At, rule8, rule9At, rule9, rule10At, rule10, rule11, rule12, rule13, rule14, headerRules, stateRules, verdict}
+use Rattle.layout.specs.Rules.{rule1, rule2, rule3, rule4, rule5, rule6, sphFits, dsdsFit, rule7, rule8At, rule8, rule9At, rule9, rule10At, rule10, rule11, rule12, rule13, rule14, rules1to6, rules7to14, headerRules, stateRules, verdictFrom, verdict}
 use Rattle.layout.specs.Answers.{directoryFor}
 use Rattle.layout.proofs.Laws.{and-T, leb-T, need-accepts, orElse-accepts, orElse-assoc, first-same, laidOut-take}
 use Rattle.layout.proofs.Starts.{mph-length}
@@ -43,23 +43,6 @@ map-upto-same f g i (suc n) h = rw (h i (omega arith) (omega arith), map-upto-sa
 orElse-same : (a x y : Answer) → (a ≡ accepted → x ≡ y) → (a orElse x) ≡ (a orElse y)
 orElse-same accepted x y h = h refl
 orElse-same (refused n p e) x y h = refl
-
--- ---- the rules in their order, of bytes d, from the length n and a tally
-
-rules7to16 : ℕ → Tally → List ℕ → Answer
-rules7to16 n t d =
-    rule7 d n
-    orElse rule8 d n
-    orElse rule9 d n
-    orElse rule10 d n
-    orElse rule11 d n
-    orElse rule12 d n
-    orElse rule13 d n
-    orElse rule14 d n
-    orElse stateRules (directory d) t
-
-rules1to16 : ℕ → Tally → List ℕ → Answer
-rules1to16 n t d = rule1 d n orElse rule2 d n orElse rule3 d n orElse rule4 d n orElse rule5 d n orElse rule6 d n orElse rules7to16 n t d
 
 -- ---- what two products agree on
 
@@ -192,32 +175,38 @@ module _ (b c : List ℕ) (n : ℕ) (same : SameHeaders b c n) where
     unfolding rule14
     same-rule14 = rw (same-directory, same-headersEnd)
 
-  same-rest : (t : Tally) → rule6 b n ≡ accepted → rules7to16 n t b ≡ rules7to16 n t c
-  unfolding rules7to16
+  same-first : rules1to6 b n ≡ rules1to6 c n
+  unfolding rules1to6 rule1 rule2
+  same-first = rw (same-rule3, same-rule4, same-rule5, same-rule6)
+
+  rule6-holds : rules1to6 b n ≡ accepted → rule6 b n ≡ accepted
+  unfolding rules1to6
+  rule6-holds h = (simp orElse-accepts at h) .1 .1 .1 .1 .1
+
+  same-rest : (t : Tally) → rule6 b n ≡ accepted → (rules7to14 b n orElse stateRules (directory b) t) ≡ (rules7to14 c n orElse stateRules (directory c) t)
+  unfolding rules7to14
   same-rest t six =
       rw (same-rule7 six, same-rule8 six, same-rule9 six, same-rule10 six, same-rule11 six, same-rule12 six, same-rule13 six, same-rule14 six, same-directory six)
 
-  same-rules : (t : Tally) → rules1to16 n t b ≡ rules1to16 n t c
-  unfolding rules1to16 rule1 rule2
-  same-rules t =
-      ap (λ (a : Answer). rule1 b n orElse rule2 b n orElse rule3 b n orElse rule4 b n orElse rule5 b n orElse a) (orElse-same (rule6 b n) (rules7to16 n t b) (rules7to16 n t c) (same-rest t))
-      ∙ rw (same-rule3, same-rule4, same-rule5, same-rule6)
+  -- the verdict on a product of n bytes is one of its headers and the tally
+  pub same-verdict-from : (t : Tally) → verdictFrom b n t ≡ verdictFrom c n t
+  unfolding verdictFrom headerRules
+  same-verdict-from t =
+      orElse-assoc (rules1to6 b n) (rules7to14 b n) (stateRules (directory b) t)
+      ∙ orElse-same (rules1to6 b n) (rules7to14 b n orElse stateRules (directory b) t) (rules7to14 c n orElse stateRules (directory c) t) (λ h. same-rest t (rule6-holds h))
+      ∙ rw same-first (sym (orElse-assoc (rules1to6 c n) (rules7to14 c n) (stateRules (directory c) t)))
 
 -- ---- whole products
 
-in-order : (b : List ℕ) → verdict b ≡ rules1to16 (length b) (tallyOf (statesOf b (directory b))) b
-unfolding verdict firstRule headerRules rules1to16 rules7to16
-in-order b = simp orElse-assoc
-
 accepted-six : (b : List ℕ) → verdict b ≡ accepted → rule6 b (length b) ≡ accepted
-unfolding verdict firstRule headerRules
-accepted-six b h = (simp orElse-accepts at h) .0 .1 .1 .1 .1 .1 .0
+unfolding verdict verdictFrom headerRules rules1to6
+accepted-six b h = (simp orElse-accepts at h) .0 .0 .1 .1 .1 .1 .1
 
 module _ (b c : List ℕ) (long : length b ≡ length c) (same : SameHeaders b c (length b))
     (tallies : tallyOf (statesOf b (directory b)) ≡ tallyOf (statesOf c (directory c))) where
   pub same-verdict : verdict b ≡ verdict c
-  same-verdict =
-      in-order b ∙ same-rules b c (length b) same (tallyOf (statesOf b (directory b))) ∙ rw (long, tallies) (sym (in-order c))
+  unfolding verdict
+  same-verdict = same-verdict-from b c (length b) same (tallyOf (statesOf b (directory b))) ∙ rw (long, tallies)
 
   pub same-directories : directoryFor (verdict b) b ≡ directoryFor (verdict c) c
   same-directories = rw (← same-verdict) (go (verdict b) refl)

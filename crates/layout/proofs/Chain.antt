@@ -10,20 +10,12 @@ use native.Mathlib.Nat.{le-trans}
 use lib.Dec.{leb, ltb}
 use lib.ListN.{length, take, drop, take-append-drop}
 use lib.Seq.{drop-drop, drop-length}
-use Rattle.layout.specs.Search.{upto}
+use Rattle.layout.specs.Search.{All, Some, upto}
 use Rattle.layout.specs.Order.{insert, sorted}
 use Rattle.layout.proofs.Laws.{lt-or-le}
 use borrow.Author.Tests.{leb-true, leb-false, lt-ltb, le-ltb}
 
 module _ {A : Type 0} where
-  abbrev pub All : (A → Type 0) → List A → Type 0
-  All P [] = Unit {0}
-  All P (x ∷ xs) = P x × All P xs
-
-  abbrev pub Some : (A → Type 0) → List A → Type 0
-  Some P [] = ⊥
-  Some P (x ∷ xs) = P x ⊎ Some P xs
-
   -- each later one is so to each earlier one
   abbrev pub Pairs : (A → A → Type 0) → List A → Type 0
   Pairs R [] = Unit {0}

@@ -9,67 +9,43 @@ use native.Mathlib.Omega.{arith}
 use native.Mathlib.Nat.{le-of-suc-le-suc}
 use lib.ListN.{length, getD}
 use Rattle.layout.specs.Answer.{Answer, accepted, refused}
-use Rattle.layout.specs.Search.{firstRule}
 use Rattle.layout.specs.Entries.{headersEnd, directory}
-use Rattle.layout.specs.Rules.{rule12, rule13, rule14, headerRules, stateRules, verdict}
+use Rattle.layout.specs.Rules.{rule12, rule13, rule14, rules1to6, rules7to14, headerRules, stateRules, verdictFrom, verdict}
 use Rattle.layout.proofs.Laws.{lt-or-le, orElse-assoc}
-use Rattle.layout.proofs.Judges.{Upto, Lowest, Never, JudgesAll, one-more, last-rule}
-use Rattle.layout.proofs.Faults.{Fault1, Fault2, Fault3, Fault4, Fault5, Fault6, Fault7, Fault8, Fault9, Fault10, Fault11, Fault12, Fault13, Fault14, Fault15, Fault16, judges1, judges2, judges3, judges4, judges5, judges6, judges7, judges8, judges9, judges10, judges11, judges12, judges13, judges14, judges15, judges16}
+use Rattle.layout.specs.Faults.{Upto, Lowest, Never, faults, Fault}
+use Rattle.layout.proofs.Judges.{JudgesAll, one-more, last-rule}
+use Rattle.layout.proofs.Faults.{judges1, judges2, judges3, judges4, judges5, judges6, judges7, judges8, judges9, judges10, judges11, judges12, judges13, judges14, judges15, judges16}
 
 module _ (b : List ℕ) where
-  abbrev faults : List (ℕ → ℕ → Type 0)
-  faults =
-      Fault1 b (length b)
-      ∷ Fault2 b (length b)
-      ∷ Fault3 b (length b)
-      ∷ Fault4 b (length b)
-      ∷ Fault5 b (length b)
-      ∷ Fault6 b (length b)
-      ∷ Fault7 b (length b)
-      ∷ Fault8 b (length b)
-      ∷ Fault9 b (length b)
-      ∷ Fault10 b (length b)
-      ∷ Fault11 b (length b)
-      ∷ Fault12 (directory b) (headersEnd b) (length b)
-      ∷ Fault13 (directory b) (headersEnd b) (length b)
-      ∷ Fault14 (directory b) (headersEnd b) (length b)
-      ∷ Fault15 b (directory b)
-      ∷ Fault16 b (directory b)
-      ∷ []
-
-  -- the product has a fault of rule k at place p and entry e
-  abbrev pub Fault : ℕ → ℕ → ℕ → Type 0
-  Fault k p e = getD (Never ∷ faults) k Never p e
-
-  judges-all : JudgesAll (verdict b) 1 faults
-  unfolding verdict firstRule headerRules stateRules rule12 rule13 rule14
+  judges-all : JudgesAll (verdict b) 1 (faults b)
+  unfolding verdict verdictFrom headerRules rules1to6 rules7to14 stateRules rule12 rule13 rule14
   judges-all =
       let n = length b in
       let ds = directory b in
       let h = headersEnd b in
       simp orElse-assoc
-      (one-more (judges1 b n)
-      (one-more (judges2 b n)
-      (one-more (judges3 b n)
-      (one-more (judges4 b n)
-      (one-more (judges5 b n)
-      (one-more (judges6 b n)
-      (one-more (judges7 b n)
-      (one-more (judges8 b n)
-      (one-more (judges9 b n)
-      (one-more (judges10 b n)
-      (one-more (judges11 b n)
-      (one-more (judges12 ds h n)
-      (one-more (judges13 ds h n)
-      (one-more (judges14 ds h n)
-      (one-more (judges15 b ds)
-      (last-rule (judges16 b ds)))))))))))))))))
+      (one-more (judges1 b n) λ _.
+      one-more (judges2 b n) λ _.
+      one-more (judges3 b n) λ _.
+      one-more (judges4 b n) λ _.
+      one-more (judges5 b n) λ _.
+      one-more (judges6 b n) λ _.
+      one-more (judges7 b n) λ _.
+      one-more (judges8 b n) λ _.
+      one-more (judges9 b n) λ _.
+      one-more (judges10 b n) λ _.
+      one-more (judges11 b n) λ _.
+      one-more (judges12 ds h n) λ _.
+      one-more (judges13 ds h n) λ _.
+      one-more (judges14 ds h n) λ _.
+      one-more (judges15 b ds) λ states.
+      last-rule (judges16 b ds states))
 
   -- what a refusal says
   abbrev First : ℕ → ℕ → ℕ → Type 0
-  First k p e = ((j q d : ℕ) → j < k → Fault j q d → ⊥) × Lowest (Fault k) p e
+  First k p e = ((j q d : ℕ) → j < k → Fault b j q d → ⊥) × Lowest (Fault b k) p e
 
-  earlier : (i : ℕ) → ((j q d : ℕ) → j < i → getD faults j Never q d → ⊥) → (j q d : ℕ) → j < suc i → Fault j q d → ⊥
+  earlier : (i : ℕ) → ((j q d : ℕ) → j < i → getD (faults b) j Never q d → ⊥) → (j q d : ℕ) → j < suc i → Fault b j q d → ⊥
   earlier i h zero q d l f = f
   earlier i h (suc j) q d l f = h j q d (le-of-suc-le-suc l) f
 
@@ -79,7 +55,7 @@ module _ (b : List ℕ) where
       let q : k ≡ suc (r .0) = omega (arith, r .1 .0) in
       subst (λ (m : ℕ). First m p e) (sym q) (earlier (r .0) (r .1 .1 .0), r .1 .1 .1)
 
-  accepted-clean : verdict b ≡ accepted → (k p e : ℕ) → Fault k p e → ⊥
+  accepted-clean : verdict b ≡ accepted → (k p e : ℕ) → Fault b k p e → ⊥
   accepted-clean h zero p e f = f
   accepted-clean h (suc k) p e f = judges-all .clean h k p e f
 
@@ -101,19 +77,19 @@ module _ (b : List ℕ) where
       go (inr l) (inl u) = absurd (x .0 m q d u (y .1 .0))
       go (inr l) (inr u) =
           let s : m ≡ k = omega arith in
-          let r = one-lowest (Fault k) p e q d (x .1) (subst (λ (j : ℕ). Lowest (Fault j) q d) s (y .1)) in
+          let r = one-lowest (Fault b k) p e q d (x .1) (subst (λ (j : ℕ). Lowest (Fault b j) q d) s (y .1)) in
           rw (s, r .0, r .1)
 
   -- accepted exactly when rules 1 to 16 hold: no rule has a fault
-  pub accepted-exactly : (verdict b ≡ accepted) ↔ ((k p e : ℕ) → Fault k p e → ⊥)
+  pub accepted-exactly : (verdict b ≡ accepted) ↔ ((k p e : ℕ) → Fault b k p e → ⊥)
   accepted-exactly = (accepted-clean, go (verdict b) refl)
     where
-      go : (a : Answer) → verdict b ≡ a → ((k p e : ℕ) → Fault k p e → ⊥) → a ≡ accepted
+      go : (a : Answer) → verdict b ≡ a → ((k p e : ℕ) → Fault b k p e → ⊥) → a ≡ accepted
       go accepted g h = refl
       go (refused k p e) g h = absurd (h k p e (refused-first k p e g .1 .0))
 
   -- a refusal is the lowest: all rules before hold, and this rule fails at that place and entry, at no lower entry and no lower place
-  pub refused-exactly : (k p e : ℕ) → (verdict b ≡ refused k p e) ↔ (((j q d : ℕ) → j < k → Fault j q d → ⊥) × Lowest (Fault k) p e)
+  pub refused-exactly : (k p e : ℕ) → (verdict b ≡ refused k p e) ↔ (((j q d : ℕ) → j < k → Fault b j q d → ⊥) × Lowest (Fault b k) p e)
   refused-exactly k p e = (refused-first k p e, go (verdict b) refl)
     where
       go : (a : Answer) → verdict b ≡ a → First k p e → a ≡ refused k p e

@@ -13,19 +13,9 @@ use lib.ListN.{length, getD}
 use Rattle.layout.specs.Text.{Class, plain, fits}
 use Rattle.layout.specs.Answer.{Answer, accepted, refused, need, where′, _orElse_}
 use Rattle.layout.specs.Search.{first, laidOut}
+use Rattle.layout.specs.Faults.{At, Upto, Lowest, Fits, LaidOut, Never}
 use Rattle.layout.proofs.Laws.{lt-or-le, not-iff, accepted≢refused, orElse-accepts, orElse-accepted}
-
--- the first of two faults counts: a lower entry, or the same entry and no higher place
-abbrev pub Upto : ℕ → ℕ → ℕ → ℕ → Type 0
-Upto p e q d = (e < d) ⊎ ((e ≡ d) × (p ≤ q))
-
--- a fault at place p and entry e, and none at a lower entry or place
-abbrev pub Lowest : (ℕ → ℕ → Type 0) → ℕ → ℕ → Type 0
-Lowest Fault p e = Fault p e × ((q d : ℕ) → Fault q d → Upto p e q d)
-
--- this place and this entry
-abbrev pub At : ℕ → ℕ → ℕ → ℕ → Type 0
-At p e q d = (p ≡ q) × (e ≡ d)
+use Rattle.layout.proofs.Tests.{fits-T}
 
 pub record Judges (a : Answer) (k : ℕ) (Fault : ℕ → ℕ → Type 0) : Type 0 where
   pub clean : a ≡ accepted → (p e : ℕ) → Fault p e → ⊥
@@ -136,10 +126,6 @@ in-order P Q m p e q d l x y = inr (x .1 ∙ sym (y .1), omega (arith, x .0, y .
 
 -- ---- bytes against a layout
 
--- byte i is there and of its class
-abbrev pub LaidOut : List Class → List ℕ → ℕ → Type 0
-LaidOut ks b i = (i < length b) × T (fits (getD ks i plain) (getD b i 0))
-
 module _ (n e : ℕ) where
   abbrev Misplaced : ℕ → List Class → List ℕ → ℕ → ℕ → Type 0
   Misplaced p ks b q d = (i : ℕ) × ((i < length ks) × ((LaidOut ks b i → ⊥) × At q d (p + i) e))
@@ -153,14 +139,14 @@ module _ (n e : ℕ) where
         (sym x, ((0, (omega arith, (λ l. not-suc-le-zero (l .0), (sym y ∙ sym (add-zero p), sym z)))), λ q' d' f. inr (sym z ∙ sym (f .1 .1 .1 .1), omega (arith, f .1 .1 .1 .0))));
   }
   laidOut-judges-from (k ∷ ks) (x ∷ b) p =
-      same-faults (λ q d. ((T (fits k x) → ⊥) × At q d p e) ⊎ Misplaced (suc p) ks b q d) (Misplaced p (k ∷ ks) (x ∷ b)) (λ q d. (to q d, λ g. from q d (g .0) (g .1)))
-      (both-judges (λ q d q' d' u v. inr (u .1 .1 ∙ sym (v .1 .1 .1 .1), omega (arith, u .1 .0, v .1 .1 .1 .0))) (need-judges (fits k x) n p e (λ h. h, λ h. h)) (laidOut-judges-from ks b (suc p)))
+      same-faults (λ q d. ((Fits k x → ⊥) × At q d p e) ⊎ Misplaced (suc p) ks b q d) (Misplaced p (k ∷ ks) (x ∷ b)) (λ q d. (to q d, λ g. from q d (g .0) (g .1)))
+      (both-judges (λ q d q' d' u v. inr (u .1 .1 ∙ sym (v .1 .1 .1 .1), omega (arith, u .1 .0, v .1 .1 .1 .0))) (need-judges (fits k x) n p e (not-iff (fits-T k x))) (laidOut-judges-from ks b (suc p)))
     where
-      to : (q d : ℕ) → ((T (fits k x) → ⊥) × At q d p e) ⊎ Misplaced (suc p) ks b q d → Misplaced p (k ∷ ks) (x ∷ b) q d
+      to : (q d : ℕ) → ((Fits k x → ⊥) × At q d p e) ⊎ Misplaced (suc p) ks b q d → Misplaced p (k ∷ ks) (x ∷ b) q d
       to q d (inl u) = (0, (omega arith, (λ l. u .0 (l .1), (u .1 .0 ∙ sym (add-zero p), u .1 .1))))
       to q d (inr v) = (suc (v .0), (omega (arith, v .1 .0), (λ l. v .1 .1 .0 (omega (arith, l .0), l .1), (omega (arith, v .1 .1 .1 .0), v .1 .1 .1 .1))))
 
-      from : (q d i : ℕ) → (i < length (k ∷ ks)) × ((LaidOut (k ∷ ks) (x ∷ b) i → ⊥) × At q d (p + i) e) → ((T (fits k x) → ⊥) × At q d p e) ⊎ Misplaced (suc p) ks b q d
+      from : (q d i : ℕ) → (i < length (k ∷ ks)) × ((LaidOut (k ∷ ks) (x ∷ b) i → ⊥) × At q d (p + i) e) → ((Fits k x → ⊥) × At q d p e) ⊎ Misplaced (suc p) ks b q d
       from q d zero g = inl (λ t. g .1 .0 (omega arith, t), (g .1 .1 .0 ∙ add-zero p, g .1 .1 .1))
       from q d (suc i) g = inr (i, (omega (arith, g .0), (λ l. g .1 .0 (omega (arith, l .0), l .1), (omega (arith, g .1 .1 .0), g .1 .1 .1))))
 
@@ -168,9 +154,6 @@ module _ (n e : ℕ) where
   laidOut-judges ks b p = laidOut-judges-from ks b p
 
 -- ---- rules one after the other
-
-abbrev pub Never : ℕ → ℕ → Type 0
-Never p e = ⊥
 
 -- an answer judges rules k, k + 1 and so on, whose faults are these
 pub record JudgesAll (a : Answer) (k : ℕ) (Fs : List (ℕ → ℕ → Type 0)) : Type 1 where
@@ -180,20 +163,24 @@ pub record JudgesAll (a : Answer) (k : ℕ) (Fs : List (ℕ → ℕ → Type 0))
 pub no-rules : (k : ℕ) → JudgesAll accepted k []
 no-rules k = record { clean = λ h i p e f. f; lowest = λ n p e h. absurd (accepted≢refused h) }
 
-pub one-more : {a r : Answer} {k : ℕ} {F : ℕ → ℕ → Type 0} {Fs : List (ℕ → ℕ → Type 0)} → Judges r k F → JudgesAll a (suc k) Fs → JudgesAll (r orElse a) k (F ∷ Fs)
+-- a rule more in front; those behind it are looked at only where it has no fault
+pub one-more : {a r : Answer} {k : ℕ} {F : ℕ → ℕ → Type 0} {Fs : List (ℕ → ℕ → Type 0)} → Judges r k F → (((p e : ℕ) → F p e → ⊥) → JudgesAll a (suc k) Fs) → JudgesAll (r orElse a) k (F ∷ Fs)
 one-more {a} {r} {k} {F} {Fs} j m = record { clean = clean; lowest = lowest r refl }
   where
+    behind : r ≡ accepted → JudgesAll a (suc k) Fs
+    behind g = m (j .clean g)
+
     clean : (r orElse a) ≡ accepted → (i p e : ℕ) → getD (F ∷ Fs) i Never p e → ⊥
     clean h zero p e f = j .clean (orElse-accepts r a .0 h .0) p e f
-    clean h (suc i) p e f = m .clean (orElse-accepts r a .0 h .1) i p e f
+    clean h (suc i) p e f = let s = orElse-accepts r a .0 h in behind (s .0) .clean (s .1) i p e f
 
     earlier : r ≡ accepted → (i : ℕ) → ((j q d : ℕ) → j < i → getD Fs j Never q d → ⊥) → (j q d : ℕ) → j < suc i → getD (F ∷ Fs) j Never q d → ⊥
     earlier g i h zero q d l f = j .clean g q d f
     earlier g i h (suc j') q d l f = h j' q d (le-of-suc-le-suc l) f
 
     lowest : (c : Answer) → r ≡ c → (n p e : ℕ) → (c orElse a) ≡ refused n p e → (i : ℕ) × ((n ≡ k + i) × (((j q d : ℕ) → j < i → getD (F ∷ Fs) j Never q d → ⊥) × Lowest (getD (F ∷ Fs) i Never) p e))
-    lowest accepted g n p e h = let s = m .lowest n p e h in (suc (s .0), (omega (arith, s .1 .0), (earlier g (s .0) (s .1 .1 .0), s .1 .1 .1)))
+    lowest accepted g n p e h = let s = behind g .lowest n p e h in (suc (s .0), (omega (arith, s .1 .0), (earlier g (s .0) (s .1 .1 .0), s .1 .1 .1)))
     lowest (refused n' p' e') g n p e h = let s = j .lowest n p e (g ∙ h) in (0, (s .0 ∙ sym (add-zero k), (λ j q d l. absurd (not-suc-le-zero l), s .1)))
 
 pub last-rule : {a : Answer} {k : ℕ} {F : ℕ → ℕ → Type 0} → Judges a k F → JudgesAll a k (F ∷ [])
-last-rule {a} {k} {F} j = subst (λ (x : Answer). JudgesAll x k (F ∷ [])) (orElse-accepted a) (one-more j (no-rules (suc k)))
+last-rule {a} {k} {F} j = subst (λ (x : Answer). JudgesAll x k (F ∷ [])) (orElse-accepted a) (one-more j (λ clean. no-rules (suc k)))

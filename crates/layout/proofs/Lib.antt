@@ -2,6 +2,8 @@ pub mod Starts
 pub mod Laws
 pub mod Types
 pub mod Widths
+pub mod Tests
+pub mod SphText
 pub mod Judges
 pub mod Faults
 pub mod Exactly

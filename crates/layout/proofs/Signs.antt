@@ -1,31 +1,17 @@
--- Two errors of the program that the workshop bought, ruled out for every state record and every DSD: flag 1 taken for attached, and a DSR_SIZE that
--- loses its sign.
+-- An error of the program that the workshop bought, ruled out for every DSD: a DSR_SIZE that loses its sign.
 -- Assumes nothing.
 use Prim.Native.Nat.{ℕ, suc}
-use mathlib.Core.Bool.{true, false}
+use mathlib.Core.Bool.{true}
 use mathlib.Core.List.{List, [], _∷_}
 use mathlib.Core.Path.{_≡_, _∙_}
 use native.Mathlib.Omega.{arith}
 use lib.ListN.{take, drop, getD}
 use lib.Seq.{getD-drop}
-use borrow.Author.Tests.{eq-eqb, ne-eqb}
+use borrow.Author.Tests.{eq-eqb}
 use Rattle.layout.specs.Bytes.{part, byteAt}
 use Rattle.layout.specs.Text.{lineClasses, valueClasses, valueWidth, quoteWidth, placeOf, widthOf, valueOf, numberOf}
 use Rattle.layout.specs.Lines.{dsd}
 use Rattle.layout.specs.Entries.{entryOf}
-use Rattle.layout.specs.States.{State, attached}
-
--- ---- a state's flag
-
-pub flag-0-attached : (kind : ℕ) (s : State) → s .flag ≡ 0 → s .kind ≡ kind → attached kind s ≡ true
-unfolding attached
-flag-0-attached kind s f k = rw (eq-eqb (s .flag) 0 f, eq-eqb (s .kind) kind k)
-
-pub flag-1-not-attached : (kind : ℕ) (s : State) → s .flag ≡ 1 → attached kind s ≡ false
-unfolding attached
-flag-1-not-attached kind s f = rw (ne-eqb (s .flag) 0 (λ z. omega arith))
-
--- ---- a record size's sign
 
 minus-first : (w : ℕ) (l : List ℕ) → getD l 0 0 ≡ 45 → numberOf (take (suc w) l) .minus ≡ true
 unfolding numberOf

@@ -15,15 +15,17 @@ use lib.ListN.{length, getD, replicate, length-map}
 use Rattle.layout.specs.Bytes.{bytes, member}
 use Rattle.layout.specs.Text.{Number, whole}
 use Rattle.layout.specs.Answer.{accepted}
-use Rattle.layout.specs.Search.{upto, firstRule}
+use Rattle.layout.specs.Search.{upto}
 use Rattle.layout.specs.Entries.{Entry, sphSize, numDsd, headersEnd, entries, dsdAt, dsdBytes, entryOf, entryAt, directory, at, isData, nonEmpty, start, extent, isVariable}
 use Rattle.layout.specs.States.{State, statesOf, tallyOf}
 use Rattle.layout.specs.Records.{lengths}
-use Rattle.layout.specs.Rules.{rule2, rule6, sphFits, dsdsFit, rule8, rule8At, rule10, rule10At, rule12, rule12At, setInside, rule13, rule13At, sharesAt, rule14, rule14At, holdsAt, rule15, rule16, rule16At, headerRules, stateRules, verdict}
+use Rattle.layout.specs.Faults.{NonEmpty, Byte, NumbersFit, Variable}
+use Rattle.layout.specs.Rules.{rule2, rule6, sphFits, dsdsFit, rule8, rule8At, rule10, rule10At, rule12, rule12At, setInside, rule13, rule13At, sharesAt, rule14, rule14At, holdsAt, rule15, rule16, rule16At, rules1to6, rules7to14, headerRules, stateRules, verdictFrom, verdict}
 use Rattle.layout.proofs.Laws.{and-T, imp-T, not-T′, leb-T, eqb-T, leZ-T, ltZ-T, eqZ-T, need-accepts, orElse-accepts, where-accepts, first-accepts, first-accepts-0, some-T}
 use Rattle.layout.proofs.Types.{Typed, laidOut-typed}
 use Rattle.layout.proofs.Widths.{count-small}
-use Rattle.layout.proofs.Faults.{Byte, NumbersFit, Variable, Filled, holds-T, shares-T, numbers-T, variable-T, filled-T}
+use Rattle.layout.proofs.Tests.{data-T, nonEmpty-T, holds-T, shares-T, numbers-T, variable-T}
+use Rattle.layout.proofs.Faults.{FilledBy, filled-T}
 
 ruleset tests = (need-accepts, orElse-accepts, where-accepts, first-accepts-0, some-T, and-T, imp-T, not-T′, leb-T, eqb-T, eqZ-T, leZ-T, ltZ-T)
 
@@ -56,10 +58,10 @@ pub record Sound (b : List ℕ) : Type 0 where
   pub dsds : 280 * entries b ≤ sphSize b .magnitude
   pub typed : (i : ℕ) → i < length (directory b) → Typed (at (directory b) i)
   pub numbers : (i : ℕ) → i < length (directory b) → NumbersFit (at (directory b) i)
-  pub inside : (i : ℕ) → i < length (directory b) → T (nonEmpty (at (directory b) i)) → (headersEnd b ≤ start (at (directory b) i)) × (start (at (directory b) i) + extent (at (directory b) i) ≤ length b)
+  pub inside : (i : ℕ) → i < length (directory b) → NonEmpty (at (directory b) i) → (headersEnd b ≤ start (at (directory b) i)) × (start (at (directory b) i) + extent (at (directory b) i) ≤ length b)
   pub apart : (i : ℕ) → i < length (directory b) → ((j : ℕ) × (j < i) × ((p : ℕ) × (Byte (at (directory b) i) p × Byte (at (directory b) j) p))) → ⊥
   pub covered : (p : ℕ) → headersEnd b ≤ p → p < length b → (i : ℕ) × (i < length (directory b)) × Byte (at (directory b) i) p
-  pub filled : (i : ℕ) → i < length (directory b) → Variable (at (directory b) i) → Filled b (directory b) (at (directory b) i)
+  pub filled : (i : ℕ) → i < length (directory b) → Variable (at (directory b) i) → FilledBy b (directory b) (at (directory b) i)
 
 -- ---- entries without records
 
@@ -111,7 +113,7 @@ module _ (e : Entry) (fit : NumbersFit e) (typed : Typed e) (empty : nonEmpty e 
       go : Typed e → (d : Bool) → isData e ≡ d → e .count .magnitude ≡ 0
       go (inr s) d x = s .1 .0
       go (inl m) true x =
-          let d : T (isData e) = rw x tt in
+          let d = data-T e .0 (rw x tt) in
           no-magnitude (e .count) (fit .1 d .1 .0 (not-above (whole (e .size)) (fit .1 d .0 .1 .0) (rw x at empty)))
       go (inl m) false x = no-magnitude (e .count) (fit .0 (is-reference e m x) .1 .1 .0)
 
@@ -131,7 +133,7 @@ module _ (e : Entry) (fit : NumbersFit e) (typed : Typed e) (empty : nonEmpty e 
   no-records ss = rw (not-variable, no-count)
 
 -- rules 1 to 14 hold
-module _ (b : List ℕ) (h : firstRule headerRules b (length b) ≡ accepted) where
+module _ (b : List ℕ) (h : headerRules b (length b) ≡ accepted) where
   abbrev Accepts : Type 0
   Accepts =
       ((rule2 b (length b) ≡ accepted) × (rule6 b (length b) ≡ accepted))
@@ -142,13 +144,12 @@ module _ (b : List ℕ) (h : firstRule headerRules b (length b) ≡ accepted) wh
       × (rule14 b (length b) ≡ accepted)))))
 
   rules-accept : Accepts
-  unfolding headerRules firstRule
+  unfolding headerRules rules1to6 rules7to14
   rules-accept =
       let r = simp orElse-accepts at h in
-      let r6 = r .1 .1 .1 .1 .1 in
-      let r8 = r6 .1 .1 in
+      let r8 = r .1 .1 in
       let r10 = r8 .1 .1 in
-      ((r .1 .0, r6 .0), (r8 .0, (r10 .0, (r10 .1 .1 .0, (r10 .1 .1 .1 .0, r10 .1 .1 .1 .1 .0)))))
+      ((r .0 .1 .0, r .0 .1 .1 .1 .1 .1), (r8 .0, (r10 .0, (r10 .1 .1 .0, r10 .1 .1 .1))))
 
   pub rule2-sound : length b ≤ 2147483647
   unfolding rule2
@@ -184,9 +185,9 @@ module _ (b : List ℕ) (h : firstRule headerRules b (length b) ≡ accepted) wh
       let r = simp (first-accepts-0, need-accepts, numbers-T) at (rules-accept .1 .1 .0) in
       rw (at-directory b i m) (r i m)
 
-  pub rule12-sound : (i : ℕ) → i < length (directory b) → T (nonEmpty (at (directory b) i)) → (headersEnd b ≤ start (at (directory b) i)) × (start (at (directory b) i) + extent (at (directory b) i) ≤ length b)
+  pub rule12-sound : (i : ℕ) → i < length (directory b) → NonEmpty (at (directory b) i) → (headersEnd b ≤ start (at (directory b) i)) × (start (at (directory b) i) + extent (at (directory b) i) ≤ length b)
   unfolding rule12 rule12At setInside
-  rule12-sound = simp tests at (rules-accept .1 .1 .1 .0)
+  rule12-sound = simp (tests, nonEmpty-T) at (rules-accept .1 .1 .1 .0)
 
   pub rule13-sound : (i : ℕ) → i < length (directory b) → ((j : ℕ) × (j < i) × ((p : ℕ) × (Byte (at (directory b) i) p × Byte (at (directory b) j) p))) → ⊥
   unfolding rule13 rule13At sharesAt
@@ -198,9 +199,9 @@ module _ (b : List ℕ) (h : firstRule headerRules b (length b) ≡ accepted) wh
 
 -- all rules hold
 module _ (b : List ℕ) (h : verdict b ≡ accepted) where
-  both-accept : (firstRule headerRules b (length b) ≡ accepted) × (stateRules (directory b) (tallyOf (statesOf b (directory b))) ≡ accepted)
-  unfolding verdict
-  both-accept = orElse-accepts (firstRule headerRules b (length b)) (stateRules (directory b) (tallyOf (statesOf b (directory b)))) .0 h
+  both-accept : (headerRules b (length b) ≡ accepted) × (stateRules (directory b) (tallyOf (statesOf b (directory b))) ≡ accepted)
+  unfolding verdict verdictFrom
+  both-accept = orElse-accepts (headerRules b (length b)) (stateRules (directory b) (tallyOf (statesOf b (directory b)))) .0 h
 
   pub accepted-entries : entries b ≤ 128
   accepted-entries = entries-sound b (both-accept .0)
@@ -209,7 +210,7 @@ module _ (b : List ℕ) (h : verdict b ≡ accepted) where
   unfolding stateRules
   accepted-states = orElse-accepts (rule15 (directory b) (tallyOf (statesOf b (directory b)))) (rule16 (directory b) (tallyOf (statesOf b (directory b)))) .0 (both-accept .1) .1
 
-  rule16-sound : (i : ℕ) → i < length (directory b) → Variable (at (directory b) i) → Filled b (directory b) (at (directory b) i)
+  rule16-sound : (i : ℕ) → i < length (directory b) → Variable (at (directory b) i) → FilledBy b (directory b) (at (directory b) i)
   unfolding rule16 rule16At
   rule16-sound i l v =
       let r = simp (first-accepts-0, where-accepts, need-accepts) at accepted-states in

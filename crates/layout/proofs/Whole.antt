@@ -16,15 +16,17 @@ use lib.Seq.{drop-drop, take-add, take-nil, take-length}
 use Rattle.layout.specs.Bytes.{part}
 use Rattle.layout.specs.Text.{whole}
 use Rattle.layout.specs.Answer.{accepted}
-use Rattle.layout.specs.Search.{count, upto, sum, join}
+use Rattle.layout.specs.Search.{All, Some, count, upto, sum, join}
 use Rattle.layout.specs.Entries.{Entry, headersEnd, directory, at, isData, nonEmpty, start, extent, kindOf, isVariable}
 use Rattle.layout.specs.States.{State, statesOf}
 use Rattle.layout.specs.Rules.{verdict}
+use Rattle.layout.specs.Faults.{NonEmpty, Byte, Fixed, Variable, NumbersFit}
 use Rattle.layout.specs.Records.{variableLengths, lengths, recordAt, recordLength, recordPart, records}
 use Rattle.layout.specs.Order.{sorted, select, nonEmptyAt, startAt, nonEmptySets, fileOrder, before, rank, recordsAt, recordsInOrder}
 use Rattle.layout.proofs.Laws.{lt-or-le, and-T}
-use Rattle.layout.proofs.Chain.{All, Some, Pairs, In, Apart, Inside, Chain, chain, joined, chain-joined, tally, sorted-all, sorted-some, sorted-pairs, sorted-sorted, sorted-count, starting-before, ranks}
-use Rattle.layout.proofs.Faults.{Byte, Fixed, Variable, NumbersFit, nonEmpty-extent, variable-T, sum-replicate}
+use Rattle.layout.proofs.Chain.{Pairs, In, Apart, Inside, Chain, chain, joined, chain-joined, tally, sorted-all, sorted-some, sorted-pairs, sorted-sorted, sorted-count, starting-before, ranks}
+use Rattle.layout.proofs.Tests.{nonEmpty-T, nonEmpty-extent, variable-T}
+use Rattle.layout.proofs.Faults.{sum-replicate}
 use Rattle.layout.proofs.Sound.{Sound, sound, no-records}
 
 -- ---- what is claimed
@@ -128,13 +130,10 @@ join-parts b (n ∷ ns) s =
 
 module _ (ss : List State) (e : Entry) where
   -- a non-empty set's records fill it, by rule 10 or by rule 16
-  lengths-fill : NumbersFit e → (Variable e → (length (variableLengths ss (kindOf e)) ≡ e .count .magnitude) × (sum (variableLengths ss (kindOf e)) ≡ extent e)) → T (nonEmpty e) → sum (lengths ss e) ≡ extent e
-  unfolding lengths nonEmpty extent
-  lengths-fill fit filled h = go (isVariable e) refl (fit .1 (p .0) .1 .1 (record { lt = p .1 }) .1)
+  lengths-fill : NumbersFit e → (Variable e → (length (variableLengths ss (kindOf e)) ≡ e .count .magnitude) × (sum (variableLengths ss (kindOf e)) ≡ extent e)) → NonEmpty e → sum (lengths ss e) ≡ extent e
+  unfolding lengths extent
+  lengths-fill fit filled h = go (isVariable e) refl (fit .1 (h .0) .1 .1 (h .1) .1)
     where
-      p : T (isData e) × T (ltZ (pos 0) (whole (e .size)))
-      p = and-T (isData e) (ltZ (pos 0) (whole (e .size))) .0 h
-
       go : (v : Bool) → isVariable e ≡ v → Fixed e ⊎ Variable e → sum (cond v (variableLengths ss (kindOf e)) (replicate (e .count .magnitude) (e .recordSize .magnitude))) ≡ e .size .magnitude
       go true q f = filled (variable-T e .0 (rw q tt)) .1
       go false q (inl f) = sum-replicate (e .count .magnitude) (e .recordSize .magnitude) ∙ f .1
@@ -154,7 +153,7 @@ module _ (b : List ℕ) (m : Sound b) where
   abbrev size : ℕ → ℕ
   size i = extent (at ds i)
 
-  filled-set : (i : ℕ) → i < length ds → T (nonEmpty (at ds i)) → sum (lengths (statesIn b) (at ds i)) ≡ size i
+  filled-set : (i : ℕ) → i < length ds → NonEmpty (at ds i) → sum (lengths (statesIn b) (at ds i)) ≡ size i
   filled-set i l h = lengths-fill (statesIn b) (at ds i) (m .numbers i l) (m .filled i l) h
 
   -- rule 13, either way round
@@ -164,18 +163,18 @@ module _ (b : List ℕ) (m : Sound b) where
   inside : All (Inside from size (headersEnd b) (length b)) (nonEmptySets ds)
   unfolding nonEmptySets nonEmptyAt
   inside = select-all (nonEmptyAt ds) (Inside from size (headersEnd b) (length b)) (length ds) 0
-      (λ i l h k. let r = m .inside i (omega arith) k in (nonEmpty-extent (at ds i) k, r .0, r .1))
+      (λ i l h k. let w = nonEmpty-T (at ds i) .0 k in let r = m .inside i (omega arith) w in (nonEmpty-extent (at ds i) w, r .0, r .1))
 
   pairs : Pairs (Apart from size) (nonEmptySets ds)
   unfolding nonEmptySets nonEmptyAt
   pairs = select-pairs (nonEmptyAt ds) (Apart from size) (length ds) 0
-      (λ i j l h k u v p x y. apart i j h (omega arith) p (u, x) (v, y))
+      (λ i j l h k u v p x y. apart i j h (omega arith) p (nonEmpty-T (at ds i) .0 u, x) (nonEmpty-T (at ds j) .0 v, y))
 
   cover : (p : ℕ) → headersEnd b ≤ p → p < length b → Some (In from size p) (nonEmptySets ds)
   unfolding nonEmptySets nonEmptyAt
   cover p h l =
       let r = m .covered p h l in
-      select-some (nonEmptyAt ds) (In from size p) (length ds) 0 (r .0) (omega arith) (omega (arith, r .1)) (r .2 .0) (r .2 .1)
+      select-some (nonEmptyAt ds) (In from size p) (length ds) 0 (r .0) (omega arith) (omega (arith, r .1)) (nonEmpty-T (at ds (r .0)) .1 (r .2 .0)) (r .2 .1)
 
   -- in file order the sets lie back to back, from the headers to the end
   back-to-back : Chain from size (headersEnd b) (length b) (fileOrder ds)
@@ -186,9 +185,9 @@ module _ (b : List ℕ) (m : Sound b) where
       (sorted-all from (Inside from size (headersEnd b) (length b)) (nonEmptySets ds) inside)
       (λ p h l. sorted-some from (In from size p) (nonEmptySets ds) (cover p h l))
 
-  all-in-order : (P : ℕ → Type 0) → ((i : ℕ) → i < length ds → T (nonEmpty (at ds i)) → P i) → All P (fileOrder ds)
+  all-in-order : (P : ℕ → Type 0) → ((i : ℕ) → i < length ds → NonEmpty (at ds i) → P i) → All P (fileOrder ds)
   unfolding fileOrder startAt nonEmptySets nonEmptyAt
-  all-in-order P f = sorted-all from P (nonEmptySets ds) (select-all (nonEmptyAt ds) P (length ds) 0 (λ i l h k. f i (omega arith) k))
+  all-in-order P f = sorted-all from P (nonEmptySets ds) (select-all (nonEmptyAt ds) P (length ds) 0 (λ i l h k. f i (omega arith) (nonEmpty-T (at ds i) .0 k)))
 
   join-records : (xs : List ℕ) → All (λ i. sum (lengths (statesIn b) (at ds i)) ≡ size i) xs → join (join (map (recordsAt b (statesIn b) ds) xs)) ≡ joined from size b xs
   unfolding recordsAt
@@ -230,12 +229,12 @@ module _ (b : List ℕ) (m : Sound b) where
       ∙ ranks from size (sorted from (nonEmptySets ds)) (headersEnd b) (length b) back-to-back (all-in-order (λ i. 0 < size i) (λ i l h. nonEmpty-extent (at ds i) h))
 
   -- every non-empty set is in file order, and nothing else is
-  pub in-file-order : (i : ℕ) → i < length ds → T (nonEmpty (at ds i)) → Some (λ j. j ≡ i) (fileOrder ds)
+  pub in-file-order : (i : ℕ) → i < length ds → NonEmpty (at ds i) → Some (λ j. j ≡ i) (fileOrder ds)
   unfolding fileOrder startAt nonEmptySets nonEmptyAt
-  in-file-order i l h = sorted-some from (λ j. j ≡ i) (nonEmptySets ds) (select-some (nonEmptyAt ds) (λ j. j ≡ i) (length ds) 0 i (omega arith) (omega arith) h refl)
+  in-file-order i l h = sorted-some from (λ j. j ≡ i) (nonEmptySets ds) (select-some (nonEmptyAt ds) (λ j. j ≡ i) (length ds) 0 i (omega arith) (omega arith) (nonEmpty-T (at ds i) .1 h) refl)
 
-  pub only-sets-in-order : All (λ i. (i < length ds) × T (nonEmpty (at ds i))) (fileOrder ds)
-  only-sets-in-order = all-in-order (λ i. (i < length ds) × T (nonEmpty (at ds i))) (λ i l h. (l, h))
+  pub only-sets-in-order : All (λ i. (i < length ds) × NonEmpty (at ds i)) (fileOrder ds)
+  only-sets-in-order = all-in-order (λ i. (i < length ds) × NonEmpty (at ds i)) (λ i l h. (l, h))
 
 -- ---- which record of a set
 
@@ -269,8 +268,8 @@ same-record ns j k q a c d e = go (lt-or-le j k) (lt-or-le k j)
 
 module _ (b : List ℕ) (m : Sound b) where
   -- an entry that has a record is a non-empty set
-  has-bytes : (i j : ℕ) → i < length (directory b) → j < length (lengths (statesIn b) (at (directory b) i)) → T (nonEmpty (at (directory b) i))
-  has-bytes i j l h = go (nonEmpty (at (directory b) i)) refl
+  has-bytes : (i j : ℕ) → i < length (directory b) → j < length (lengths (statesIn b) (at (directory b) i)) → NonEmpty (at (directory b) i)
+  has-bytes i j l h = nonEmpty-T (at (directory b) i) .0 (go (nonEmpty (at (directory b) i)) refl)
     where
       go : (t : Bool) → nonEmpty (at (directory b) i) ≡ t → T t
       go true x = tt

@@ -149,8 +149,8 @@ isStates e = eqb (e .type) 65 && called (e .name) (bytes "STATES")
 
 -- ---- rules 9 and 10: the numbers of one DSD
 
-abbrev pub most : ℕ  -- 2^63 - 1
-most = 9223372036854775807
+abbrev pub largestSigned : ℕ  -- 2^63 - 1
+largestSigned = 9223372036854775807
 
 abbrev pub isZero : Number → Bool
 isZero n = eqZ (whole n) (pos 0)

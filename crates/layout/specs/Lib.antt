@@ -7,6 +7,7 @@ pub mod Entries
 pub mod Sph
 pub mod States
 pub mod Rules
+pub mod Faults
 pub mod Records
 pub mod Order
 pub mod Fields

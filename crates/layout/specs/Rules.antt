@@ -3,7 +3,7 @@
 -- Assumes nothing.
 use Prim.Native.Nat.{ℕ, _+_, _*_, _-_}
 use mathlib.Core.Bool.{Bool, cond, _&&_, not}
-use mathlib.Core.List.{List, [], _∷_}
+use mathlib.Core.List.{List}
 use lib.Dec.{leb, eqb}
 use lib.IntN.{pos}
 use lib.ListN.{length, drop}
@@ -11,8 +11,8 @@ use Rattle.layout.specs.Bytes.{byteAt}
 use Rattle.layout.specs.Text.{Line, whole, layout}
 use Rattle.layout.specs.Lines.{mph, dsd, spareDsd}
 use Rattle.layout.specs.Answer.{Answer, none, need, where′, _⇒_, _orElse_}
-use Rattle.layout.specs.Search.{first, some, count, firstRule, laidOut}
-use Rattle.layout.specs.Entries.{Entry, withinZ, eqZ, most, totSize, sphSize, numDsd, dsdSize, numDataSets, headersEnd, entries, dsdAt, dsdBytes, entryAt, directory, at, nonEmpty, start, extent, holds, shares, isData, kindOf, isVariable, numbersFit}
+use Rattle.layout.specs.Search.{first, some, count, laidOut}
+use Rattle.layout.specs.Entries.{Entry, withinZ, eqZ, largestSigned, totSize, sphSize, numDsd, dsdSize, numDataSets, headersEnd, entries, dsdAt, dsdBytes, entryAt, directory, at, nonEmpty, start, extent, holds, shares, isData, kindOf, isVariable, numbersFit}
 use Rattle.layout.specs.Sph.{sphLines, line, lineBegins}
 use Rattle.layout.specs.States.{Tally, isStatesAt, statesEntry, stateAt, statesOf, tallyOf, ofKind}
 
@@ -30,7 +30,7 @@ rule3 b n = laidOut 3 none 0 (layout mph) b
 
 -- 4: TOT_SIZE magnitude over 2^63 - 1
 unfoldable pub rule4 : List ℕ → ℕ → Answer
-rule4 b n = need (leb (totSize b .magnitude) most) 4 1075 none
+rule4 b n = need (leb (totSize b .magnitude) largestSigned) 4 1075 none
 
 -- 5: TOT_SIZE is not the length
 unfoldable pub rule5 : List ℕ → ℕ → Answer
@@ -69,8 +69,8 @@ rule8 b n = first (rule8At b) 0 (entries b)
 -- 9: DS_OFFSET or DS_SIZE magnitude over 2^63 - 1; the place is its sign
 unfoldable pub rule9At : List ℕ → ℕ → Answer
 rule9At b i =
-    need (leb (entryAt b i .offset .magnitude) most) 9 (dsdAt b i + 133) i
-    orElse need (leb (entryAt b i .size .magnitude) most) 9 (dsdAt b i + 170) i
+    need (leb (entryAt b i .offset .magnitude) largestSigned) 9 (dsdAt b i + 133) i
+    orElse need (leb (entryAt b i .size .magnitude) largestSigned) 9 (dsdAt b i + 170) i
 
 unfoldable pub rule9 : List ℕ → ℕ → Answer
 rule9 b n = first (rule9At b) 0 (entries b)
@@ -150,12 +150,24 @@ rule16 ds t = first (rule16At ds t) 0 (length ds)
 
 -- ---- the verdict
 
-unfoldable pub headerRules : List (List ℕ → ℕ → Answer)
-headerRules = rule1 ∷ rule2 ∷ rule3 ∷ rule4 ∷ rule5 ∷ rule6 ∷ rule7 ∷ rule8 ∷ rule9 ∷ rule10 ∷ rule11 ∷ rule12 ∷ rule13 ∷ rule14 ∷ []
+-- of the main header
+unfoldable pub rules1to6 : List ℕ → ℕ → Answer
+rules1to6 b n = rule1 b n orElse rule2 b n orElse rule3 b n orElse rule4 b n orElse rule5 b n orElse rule6 b n
+
+-- of the SPH and the directory
+unfoldable pub rules7to14 : List ℕ → ℕ → Answer
+rules7to14 b n = rule7 b n orElse rule8 b n orElse rule9 b n orElse rule10 b n orElse rule11 b n orElse rule12 b n orElse rule13 b n orElse rule14 b n
+
+unfoldable pub headerRules : List ℕ → ℕ → Answer
+headerRules b n = let directory = rules7to14 b n in rules1to6 b n orElse directory
 
 unfoldable pub stateRules : List Entry → Tally → Answer
 stateRules ds t = rule15 ds t orElse rule16 ds t
 
--- the verdict on a product lent whole
+-- on a product of n bytes whose headers are at hand, by the tally of its states
+unfoldable pub verdictFrom : List ℕ → ℕ → Tally → Answer
+verdictFrom b n t = let states = stateRules (directory b) t in headerRules b n orElse states
+
+-- on a product lent whole
 unfoldable pub verdict : List ℕ → Answer
-verdict b = let states = stateRules (directory b) (tallyOf (statesOf b (directory b))) in firstRule headerRules b (length b) orElse states
+verdict b = verdictFrom b (length b) (tallyOf (statesOf b (directory b)))

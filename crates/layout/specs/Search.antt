@@ -4,6 +4,7 @@
 use Prim.Native.Nat.{ℕ, zero, suc, _+_}
 use mathlib.Core.Bool.{Bool, false, cond, _||_}
 use mathlib.Core.List.{List, [], _∷_, _++_}
+use mathlib.Core.Logic.{_⊎_}
 use Rattle.layout.specs.Answer.{Answer, accepted, refused, need, _orElse_}
 use Rattle.layout.specs.Text.{Class, fits}
 
@@ -27,6 +28,16 @@ unfoldable pub find : (ℕ → Bool) → ℕ → ℕ → ℕ
 find t i zero = i
 find t i (suc n) = let r = find t (suc i) n in cond (t i) i r
 
+-- each of a list is so; one of it is
+module _ {A : Type 0} where
+  abbrev pub All : (A → Type 0) → List A → Type 0
+  All P [] = Unit {0}
+  All P (x ∷ xs) = P x × All P xs
+
+  abbrev pub Some : (A → Type 0) → List A → Type 0
+  Some P [] = ⊥
+  Some P (x ∷ xs) = P x ⊎ Some P xs
+
 -- i and the n - 1 numbers after it
 abbrev pub upto : ℕ → ℕ → List ℕ
 upto i zero = []
@@ -40,11 +51,6 @@ sum (n ∷ ns) = n + sum ns
 abbrev pub join : {A : Type 0} → List (List A) → List A
 join [] = []
 join (x ∷ xs) = x ++ join xs
-
--- the first refusal of these rules
-unfoldable pub firstRule : {A : Type 0} → List (List ℕ → A → Answer) → List ℕ → A → Answer
-firstRule [] b a = accepted
-firstRule (r ∷ rs) b a = let next = firstRule rs b a in r b a orElse next
 
 -- bytes against a layout, from the place p on: the first that is missing or not of its class is refused with the number n and the entry e
 unfoldable pub laidOut : ℕ → ℕ → ℕ → List Class → List ℕ → Answer

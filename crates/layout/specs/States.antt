@@ -56,8 +56,12 @@ stateAt e k = start e + 1387 * k
 unfoldable pub stateIn : List ℕ → Entry → ℕ → State
 stateIn b e k = stateOf (part b (stateAt e k) 1387)
 
+-- the states of an entry; and of a product, those of the entry that describes them
+unfoldable pub statesAt : List ℕ → Entry → List State
+statesAt b e = map (stateIn b e) (upto 0 (e .count .magnitude))
+
 unfoldable pub statesOf : List ℕ → List Entry → List State
-statesOf b ds = map (stateIn b (at ds (statesEntry ds))) (upto 0 (at ds (statesEntry ds) .count .magnitude))
+statesOf b ds = statesAt b (at ds (statesEntry ds))
 
 -- ---- the tally
 
@@ -70,14 +74,14 @@ unfoldable pub firstBad : List State → ℕ
 firstBad [] = 0
 firstBad (s ∷ ss) = cond (stateFits s) (suc (firstBad ss)) 0
 
-unfoldable pub countOf : List State → ℕ → ℕ
-countOf ss kind = sum (map (stateCount kind) ss)
+unfoldable pub countOfKind : List State → ℕ → ℕ
+countOfKind ss kind = sum (map (stateCount kind) ss)
 
-unfoldable pub totalOf : List State → ℕ → ℕ
-totalOf ss kind = sum (map (stateBytes kind) ss)
+unfoldable pub totalOfKind : List State → ℕ → ℕ
+totalOfKind ss kind = sum (map (stateBytes kind) ss)
 
 unfoldable pub tallyOf : List State → Tally
-tallyOf ss = record { bad = firstBad ss; counts = map (countOf ss) (upto 1 4); totals = map (totalOf ss) (upto 1 4) }
+tallyOf ss = record { bad = firstBad ss; counts = map (countOfKind ss) (upto 1 4); totals = map (totalOfKind ss) (upto 1 4) }
 
 -- what a tally holds for a kind
 unfoldable pub ofKind : List ℕ → ℕ → ℕ

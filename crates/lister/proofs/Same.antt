@@ -23,7 +23,8 @@ use Rattle.layout.specs.Listing.{decimal, signedDecimal, trimmed, lineOf, entry
 use Rattle.layout.specs.Answers.{padded, typeOf, nameOf, countOf, recordSizeOf, directoryOf, directoryFor, noDirectory}
 use Rattle.layout.proofs.Padded.{getD-map, padded-at}
 use Rattle.layout.proofs.Types.{Typed}
-use Rattle.layout.proofs.Faults.{NumbersFit}
+use Rattle.layout.specs.Faults.{NumbersFit}
+use Rattle.layout.proofs.Tests.{data-T}
 use Rattle.layout.proofs.Sound.{Sound, sound, length-directory, at-directory, last-of-four}
 use Rattle.listed.specs.declared.Listed.{Listed}
 use Rattle.listed.specs.Line.{nameAt, valueWords, entryText}
@@ -57,7 +58,7 @@ unsigned e typed fit named = go typed (isData e) refl
     go : Typed e → (d : Bool) → isData e ≡ d → Unsigned e
     go (inr s) d x = absurd (named (s .0))
     go (inl m) true x =
-        let r = fit .1 (subst (λ (t : Bool). T t) (sym x) tt) .0 in
+        let r = fit .1 (data-T e .0 (subst (λ (t : Bool). T t) (sym x) tt)) .0 in
         (not-below (e .offset) (r .0), (not-below (e .size) (r .1 .0), not-below (e .count) (r .1 .1 .0)))
     go (inl m) false x =
         let r = fit .0 (eqb→eq (e .type) 82 (last-of-four (eqb (e .type) 77) (eqb (e .type) 65) (eqb (e .type) 71) (eqb (e .type) 82) m x)) in

@@ -2,21 +2,20 @@
 -- Assumes nothing.
 use Prim.Native.Nat.{ℕ}
 use mathlib.Core.List.{List}
-use mathlib.Core.Path.{_≡_, sym, _∙_}
+use mathlib.Core.Path.{_≡_, refl, sym, _∙_}
 use lib.ListN.{length}
 use Rattle.layout.specs.Answer.{Answer, accepted, refused, _orElse_}
-use Rattle.layout.specs.Search.{firstRule}
 use Rattle.layout.specs.Entries.{headersEnd, directory}
 use Rattle.layout.specs.States.{statesOf, tallyOf}
-use Rattle.layout.specs.Rules.{headerRules, stateRules, verdict}
+use Rattle.layout.specs.Rules.{rules1to6, rules7to14, headerRules, stateRules, verdictFrom, verdict}
 use Rattle.layout.specs.Answers.{verdictIs}
 use Rattle.layout.specs.declared.Refusal.{Refusal}
 use Rattle.layout.specs.declared.Verdict.{Verdict}
 use Rattle.layout.specs.declared.Verdict.the-variants.{Accepted, Refused}
 use Rattle.layout.proofs.Laws.{orElse-assoc, orElse-accepts, orElse-accepted, accepted≢refused}
-use Rattle.header.specs.Checks.{rules1to6, HeaderChecked}
+use Rattle.header.specs.Checks.{HeaderChecked}
 use Rattle.header.specs.declared.HeaderCheck.{HeaderCheck}
-use Rattle.directory.specs.Checks.{rules7to14, Headers, Checked}
+use Rattle.directory.specs.Checks.{Headers, Checked}
 use Rattle.directory.specs.declared.Sets.{Sets}
 use Rattle.variable.specs.Roles.{Laid}
 use Rattle.opening.specs.Opening.{Judged, closed, Opened}
@@ -27,16 +26,16 @@ module _ (b : List ℕ) where
   states = stateRules (directory b) (tallyOf (statesOf b (directory b)))
 
   in-parts : verdict b ≡ (rules1to6 b (length b) orElse (rules7to14 b (length b) orElse states))
-  unfolding verdict firstRule headerRules rules1to6 rules7to14
+  unfolding verdict verdictFrom headerRules
   in-parts = simp orElse-assoc
 
   -- what read_header and the rules below rest on
   pub first-six : verdict b ≡ accepted → rules1to6 b (length b) ≡ accepted
   first-six h = orElse-accepts (rules1to6 b (length b)) (rules7to14 b (length b) orElse states) .0 (sym in-parts ∙ h) .0
 
-  headers-in-parts : firstRule headerRules b (length b) ≡ (rules1to6 b (length b) orElse rules7to14 b (length b))
-  unfolding firstRule headerRules rules1to6 rules7to14
-  headers-in-parts = simp (orElse-assoc, orElse-accepted)
+  headers-in-parts : headerRules b (length b) ≡ (rules1to6 b (length b) orElse rules7to14 b (length b))
+  unfolding headerRules
+  headers-in-parts = refl
 
   -- a refusal of the product
   refuses : (r : Refusal) (x : Opening) → x ≡ closed r → refused (r .number) (r .place) (r .entry) ≡ verdict b → Opened b x

@@ -2,7 +2,7 @@
 ghost use mathlib.Core.Path.{_≡_};
 ghost use lib.ListN.{length};
 ghost use Rattle.layout.specs.Answer.{accepted};
-ghost use Rattle.header.specs.Checks.{rules1to6};
+ghost use Rattle.layout.specs.Rules.{rules1to6};
 ghost use Rattle.directory.specs.Checks.{together, noSets, Headers};
 ghost use Rattle.opening.specs.Opening.{Judged, closed, Opened};
 use directory::Sets;

@@ -12,8 +12,9 @@ use lib.Seq.{length-take-le}
 use borrow.Author.Tests.{lt-ltb}
 use Rattle.layout.specs.Bytes.{part}
 use Rattle.layout.specs.Answer.{accepted, refused, Reply, refusal, is}
-use Rattle.layout.specs.Search.{upto, join}
-use Rattle.layout.specs.Entries.{Entry, headersEnd, directory, at, nonEmpty}
+use Rattle.layout.specs.Search.{All, upto, join}
+use Rattle.layout.specs.Entries.{Entry, headersEnd, directory, at}
+use Rattle.layout.specs.Faults.{NonEmpty}
 use Rattle.layout.specs.States.{statesOf}
 use Rattle.layout.specs.Rules.{verdict}
 use Rattle.layout.specs.Records.{Span, lengths, recordPart, records, recordRefusal, recordPlace, sphPlace, partOf}
@@ -27,7 +28,6 @@ use Rattle.layout.specs.declared.PointAnswer.{PointAnswer}
 use Rattle.layout.specs.declared.DirectoryAnswer.{DirectoryAnswer}
 use Rattle.layout.specs.declared.HeaderAnswer.{HeaderAnswer}
 use Rattle.layout.proofs.Maps.{one-verdict, one-place, one-field-answer, one-point-answer}
-use Rattle.layout.proofs.Chain.{All}
 use Rattle.layout.proofs.Sound.{sound}
 use Rattle.layout.proofs.Whole.{joins, only-sets-in-order}
 use Rattle.product.proofs.Calls.{sph-within, record-within}
@@ -110,7 +110,7 @@ module _ (b : List ℕ) where
     unfolding recordsAt records
     of-entry i l = upto-same (call i) (recordPart b (statesOf b ds) (at ds i)) (length (lengths (statesOf b ds) (at ds i))) 0 (λ j h. handed i l j (omega arith))
 
-    map-all : (xs : List ℕ) → All (λ i. (i < length ds) × T (nonEmpty (at ds i))) xs → map recordsBy xs ≡ map (recordsAt b (statesOf b ds) ds) xs
+    map-all : (xs : List ℕ) → All (λ i. (i < length ds) × NonEmpty (at ds i)) xs → map recordsBy xs ≡ map (recordsAt b (statesOf b ds) ds) xs
     map-all [] h = refl
     map-all (x ∷ xs) h = rw (of-entry x (h .0 .0), map-all xs (h .1))
 

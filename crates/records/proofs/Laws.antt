@@ -11,16 +11,18 @@ use lib.Dec.{T, ltb, eqb, eqb→eq}
 use lib.ListN.{length, take, getD, replicate, length-replicate, getD-replicate}
 use borrow.Author.Tests.{lt-ltb, le-ltb}
 use Rattle.layout.specs.Answer.{accepted, need, refusal, is}
-use Rattle.layout.specs.Search.{find, count, sum, firstRule}
+use Rattle.layout.specs.Search.{find, count, sum}
 use Rattle.layout.specs.Entries.{Entry, eqZ, directory, at, start, extent, nonEmpty, isData, isVariable, kindOf}
 use Rattle.layout.specs.States.{State, isStatesAt, statesEntry, statesOf, tallyOf}
 use Rattle.layout.specs.Records.{variableLengths, lengths, recordAt, recordLength, recordRefusal, recordPlace}
-use Rattle.layout.specs.Rules.{headerRules, isVariableAt, statesFit, rule15, rule16, stateRules, verdict}
+use Rattle.layout.specs.Rules.{headerRules, isVariableAt, statesFit, rule15, rule16, stateRules, verdictFrom, verdict}
 use Rattle.layout.specs.Text.{whole as wholeOf}
 use lib.IntN.{pos}
 use lib.Signed.{ltZ, _<ℤ_}
 use Rattle.layout.proofs.Laws.{and-T, eqb-T, some-T, need-accepts, where-accepts, orElse-accepts, find-bounds}
-use Rattle.layout.proofs.Faults.{Fixed, Variable, variable-T, sum-replicate}
+use Rattle.layout.specs.Faults.{NonEmpty, Fixed, Variable}
+use Rattle.layout.proofs.Tests.{data-T, nonEmpty-T, variable-T}
+use Rattle.layout.proofs.Faults.{sum-replicate}
 use Rattle.layout.proofs.Sound.{Sound, sound, no-count, rule2-sound}
 use Rattle.directory.specs.Checks.{setsOf}
 use Rattle.directory.specs.declared.Sets.{Sets}
@@ -39,13 +41,8 @@ take-replicate n zero r h = refl
 take-replicate zero (suc j) r h = absurd (not-suc-le-zero h)
 take-replicate (suc n) (suc j) r h = ap (λ (l : List ℕ). r ∷ l) (take-replicate n j r (le-of-suc-le-suc h))
 
-data-of : (e : Entry) → nonEmpty e ≡ true → T (isData e)
-unfolding nonEmpty
-data-of e h = and-T (isData e) (ltZ (pos 0) (wholeOf (e .size))) .0 (rw h tt) .0
-
-above-of : (e : Entry) → nonEmpty e ≡ true → pos 0 <ℤ wholeOf (e .size)
-unfolding nonEmpty
-above-of e h = record { lt = and-T (isData e) (ltZ (pos 0) (wholeOf (e .size))) .0 (rw h tt) .1 }
+full-set : (e : Entry) → nonEmpty e ≡ true → NonEmpty e
+full-set e h = nonEmpty-T e .0 (rw h tt)
 
 module _ (b : List ℕ) (sets : Sets) (opened : Open b sets) where
   abbrev ds : List Entry
@@ -55,8 +52,8 @@ module _ (b : List ℕ) (sets : Sets) (opened : Open b sets) where
   ss = statesOf b ds
 
   laid : Laid b sets
-  unfolding verdict
-  laid = record { rules = orElse-accepts (firstRule headerRules b (length b)) (stateRules ds (tallyOf ss)) .0 (opened .accepts) .0; held = opened .held }
+  unfolding verdict verdictFrom
+  laid = record { rules = orElse-accepts (headerRules b (length b)) (stateRules ds (tallyOf ss)) .0 (opened .accepts) .0; held = opened .held }
 
   whole : Sound b
   whole = sound b (opened .accepts)
@@ -109,7 +106,7 @@ module _ (b : List ℕ) (sets : Sets) (opened : Open b sets) where
 
         fixed : e .count .magnitude * e .recordSize .magnitude ≡ extent e
         unfolding extent
-        fixed = go (whole .numbers i l .1 (data-of e full) .1 .1 (above-of e full) .1)
+        fixed = let f = full-set e full in go (whole .numbers i l .1 (f .0) .1 .1 (f .1) .1)
           where
             go : Fixed e ⊎ Variable e → e .count .magnitude * e .recordSize .magnitude ≡ e .size .magnitude
             go (inl f) = f .1
@@ -122,7 +119,7 @@ module _ (b : List ℕ) (sets : Sets) (opened : Open b sets) where
         pub record-inside : getD (sets .offsets) i 0 + j * (getD (sets .sizes) i 0 / getD (sets .counts) i 0) ≤ 2147483647
         record-inside =
             rw (length-is, place-is)
-            (omega (arith, mul-le-mul-right (e .recordSize .magnitude) in-count, fixed, whole .inside i l (rw full tt) .1, rule2-sound b (laid .rules)))
+            (omega (arith, mul-le-mul-right (e .recordSize .magnitude) in-count, fixed, whole .inside i l (full-set e full) .1, rule2-sound b (laid .rules)))
 
         pub equal-record : is (record { place = getD (sets .offsets) i 0 + j * (getD (sets .sizes) i 0 / getD (sets .counts) i 0); length = getD (sets .sizes) i 0 / getD (sets .counts) i 0 }) ≡ placeIn b i j
         unfolding placeIn recordAt recordLength
@@ -180,21 +177,20 @@ module _ (b : List ℕ) (sets : Sets) (opened : Open b sets) (i : ℕ) (inside :
   fills : (length ns ≡ at (directory b) i .count .magnitude) × (sum ns ≡ extent (at (directory b) i))
   fills = whole b sets opened .filled i in-directory variable
 
-  has-bytes : nonEmpty (at (directory b) i) ≡ true
-  unfolding nonEmpty isData
-  has-bytes = rw (variable .1 .1 .0, is-true (ltZ (pos 0) (wholeOf (at (directory b) i .size))) (variable .0 .lt))
+  has-bytes : NonEmpty (at (directory b) i)
+  has-bytes = (inl (variable .1 .1 .0), variable .0)
 
   in-product : start (at (directory b) i) + sum ns ≤ 2147483647
-  in-product = omega (arith, fills .1, whole b sets opened .inside i in-directory (rw has-bytes tt) .1, rule2-sound b (laid b sets opened .rules))
+  in-product = omega (arith, fills .1, whole b sets opened .inside i in-directory has-bytes .1, rule2-sound b (laid b sets opened .rules))
 
   has-records : 1 ≤ length ns
-  has-records = rw (fills .0) (at-least (at (directory b) i .count) (whole b sets opened .numbers i in-directory .1 (data-of (at (directory b) i) has-bytes) .1 .1 (variable .0) .0))
+  has-records = rw (fills .0) (at-least (at (directory b) i .count) (whole b sets opened .numbers i in-directory .1 (has-bytes .0) .1 .1 (has-bytes .1) .0))
 
   -- rule 15 holds, so exactly one entry describes the states
   one-states : (count (isStatesAt (directory b)) 0 (length (directory b)) ≡ 1) × (statesFit (directory b) (tallyOf (statesOf b (directory b))) (statesEntry (directory b)) ≡ accepted)
-  unfolding verdict stateRules rule15 isVariableAt
+  unfolding verdict verdictFrom stateRules rule15 isVariableAt
   one-states =
-      let r = orElse-accepts (firstRule headerRules b (length b)) (stateRules (directory b) (tallyOf (statesOf b (directory b)))) .0 (opened .accepts) .1 in
+      let r = orElse-accepts (headerRules b (length b)) (stateRules (directory b) (tallyOf (statesOf b (directory b)))) .0 (opened .accepts) .1 in
       let r15 = orElse-accepts (rule15 (directory b) (tallyOf (statesOf b (directory b)))) (rule16 (directory b) (tallyOf (statesOf b (directory b)))) .0 r .0 in
       let there = some-T (isVariableAt (directory b)) (length (directory b)) .1 (i, in-directory, rw unequal tt) in
       let s = simp (where-accepts, orElse-accepts, need-accepts, eqb-T) at r15 in

@@ -1,6 +1,6 @@
-// Rules 12 and 13 of document 01, over the offsets and sizes of a directory's entries. Two numbers that a product gives are compared by differences, so
-// no sum can pass 64 bits.
-ghost use Prim.Native.Nat.{_+_, _-_, _≤_, _<_};
+// Rules 12 and 13 of document 01, over the offsets and sizes of a directory's entries. Two numbers that a product gives are compared by differences, and
+// added only where their sum is known to fit 64 bits.
+ghost use Prim.Native.Nat.{_+_, _≤_, _<_, min};
 ghost use mathlib.Core.Bool.{true, not};
 ghost use mathlib.Core.Path.{_≡_};
 ghost use Rattle.sets.specs.Sets.{isInside, overlaps, largest, Clear, Outside, Overlapping};
@@ -71,20 +71,28 @@ fn low_with(low: u64, offset: u64, size: u64) -> u64
     offset
 }
 
-// Where the highest of the sets so far ends, with one more; an end past 64 bits is held at u64::MAX.
+// Where a set ends; an end past 64 bits is held at u64::MAX.
+fn end_of(offset: u64, size: u64) -> u64
+    ensures { λ r. ⌜ r ≡ min (offset + size) largest ⌝ }
+{
+    if u64::MAX - offset < size {
+        return u64::MAX;
+    }
+    offset + size
+}
+
+// Where the highest of the sets so far ends, with one more.
 fn high_with(high: u64, offset: u64, size: u64) -> u64
     ensures { λ r. ⌜ (high ≤ r) × (0 < size → r < largest → offset + size ≤ r) ⌝ }
 {
     if size == 0 {
         return high;
     }
-    if u64::MAX - offset < size {
-        return u64::MAX;
-    }
-    if offset + size < high {
+    let end = end_of(offset, size);
+    if end < high {
         return high;
     }
-    offset + size
+    end
 }
 
 // A set is empty or lies outside low..high. A high of u64::MAX may stand for a later end, so nothing starts behind it.

@@ -15,7 +15,7 @@ use borrow.Author.Tests.{lt-ltb, le-ltb, le-leb, lt-leb, eq-eqb, ne-eqb}
 use Rattle.layout.specs.Bytes.{part, byteAt, unsignedAt}
 use Rattle.layout.specs.Search.{upto, sum}
 use Rattle.layout.specs.Entries.{Entry, at, start}
-use Rattle.layout.specs.States.{State, stateFits, attached, stateCount, stateLengths, stateBytes, stateAt, stateIn, statesEntry, statesOf, firstBad, countOf, totalOf, tallyOf, ofKind}
+use Rattle.layout.specs.States.{State, stateFits, attached, stateCount, stateLengths, stateBytes, stateAt, stateIn, statesEntry, statesAt, statesOf, firstBad, countOfKind, totalOfKind, tallyOf, ofKind}
 use Rattle.layout.specs.Records.{variableLengths}
 use Rattle.layout.proofs.Laws.{lt-or-le}
 use Rattle.states.specs.declared.State.{State as StateRead}
@@ -116,7 +116,7 @@ module _ (b : List ℕ) (start n : ℕ) where
 
 -- the states of a product are those of its states' entry
 pub states-of : (b : List ℕ) (ds : List Entry) → statesOf b ds ≡ statesFrom b (start (at ds (statesEntry ds))) (at ds (statesEntry ds) .count .magnitude)
-unfolding statesOf statesFrom stateIn stateFrom stateAt
+unfolding statesOf statesAt statesFrom stateIn stateFrom stateAt
 states-of b ds = refl
 
 -- ---- the tally
@@ -167,7 +167,7 @@ after-is t i (s ∷ ss) e f h =
     })
 
 pub after-all : (ss : List State) → after noTally 0 ss ≡ tallyIs (tallyOf ss)
-unfolding tallyIs tallyOf left countOf totalOf
+unfolding tallyIs tallyOf left countOfKind totalOfKind
 after-all ss = after-is noTally 0 ss (simp zero-capped) (simp zero-capped) (omega arith) ∙ simp zero-add
 
 -- one more state: what is left of the tally is the whole tally

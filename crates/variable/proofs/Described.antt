@@ -17,10 +17,11 @@ use Rattle.layout.specs.Answer.{Answer, accepted, refused, _orElse_}
 use Rattle.layout.specs.Search.{some, count, find, sum}
 use Rattle.layout.specs.Entries.{Entry, eqZ, directory, at, start, extent, nonEmpty, isData, isVariable, isStates, called}
 use Rattle.layout.specs.Bytes.{bytes, member}
-use Rattle.layout.specs.States.{State, Tally, isStatesAt, statesEntry, stateAt, statesOf, firstBad, countOf, totalOf, tallyOf}
+use Rattle.layout.specs.States.{State, Tally, isStatesAt, statesEntry, stateAt, statesOf, firstBad, countOfKind, totalOfKind, tallyOf}
 use Rattle.layout.specs.Rules.{stateRules, isVariableAt, statesFit, rule15, rule16, rule16At}
 use Rattle.layout.proofs.Laws.{lt-or-le, and-T, find-at, find-bounds, find-before, first-accepts-0}
-use Rattle.layout.proofs.Faults.{Fixed, Variable, NumbersFit, variable-T}
+use Rattle.layout.specs.Faults.{NonEmpty, Fixed, Variable, NumbersFit}
+use Rattle.layout.proofs.Tests.{data-T, nonEmpty-T, variable-T}
 use Rattle.layout.proofs.Sound.{length-directory, rule2-sound, rule10-sound, rule12-sound, rule8-sound, entries-sound, count-sound, no-count}
 use Rattle.states.specs.States.{cap, capped, statesFrom, tallyIs}
 use Rattle.states.proofs.Laws.{states-of}
@@ -58,7 +59,7 @@ is-true false h = absurd h
 
 pub data-filled : (e : Entry) → NumbersFit e → T (isData e) → nonEmpty e ≡ ltb 0 (extent e)
 unfolding nonEmpty extent
-data-filled e fit d = rw (is-true (isData e) d) (above-zero (e .size) (fit .1 d .0 .1 .0))
+data-filled e fit d = rw (is-true (isData e) d) (above-zero (e .size) (fit .1 (data-T e .0 d) .0 .1 .0))
 
 not-m : (e : Entry) → T (isStates e) → e .type ≡ 77 → ⊥
 unfolding isStates
@@ -75,7 +76,7 @@ above n h = omega arith
 fixed-set : (e : Entry) → NumbersFit e → T (isData e) → nonEmpty e ≡ true → (e .type ≡ 77 → ⊥) → (1 ≤ e .count .magnitude) × Fixed e
 unfolding nonEmpty
 fixed-set e fit d full other =
-    let r = fit .1 d .1 .1 (record { lt = and-T (isData e) (ltZ (pos 0) (whole (e .size))) .0 (rw full tt) .1 }) in
+    let r = fit .1 (data-T e .0 d) .1 .1 (record { lt = and-T (isData e) (ltZ (pos 0) (whole (e .size))) .0 (rw full tt) .1 }) in
     (at-least (e .count) (r .0), go (r .1))
   where
     go : Fixed e ⊎ Variable e → Fixed e
@@ -116,12 +117,11 @@ module _ (b : List ℕ) (sets : Sets) (laid : Laid b sets) where
   pub most-entries : sets .entries ≤ 128
   most-entries = omega (arith, held-entries, length-directory b, entries-sound b (laid .rules))
 
-  in-product : (i : ℕ) → i < length ds → T (nonEmpty (at ds i)) → start (at ds i) + extent (at ds i) ≤ 2147483647
+  in-product : (i : ℕ) → i < length ds → NonEmpty (at ds i) → start (at ds i) + extent (at ds i) ≤ 2147483647
   in-product i l h = omega (arith, rule12-sound b (laid .rules) i l h .1, rule2-sound b (laid .rules))
 
-  variable-filled : (e : Entry) → T (isVariable e) → T (nonEmpty e)
-  unfolding nonEmpty isData
-  variable-filled e v = let r = variable-T e .0 v in and-T (member (e .type) (bytes "MAG")) (ltZ (pos 0) (whole (e .size))) .1 (rw (r .1 .1 .0) tt, r .0 .lt)
+  variable-filled : (e : Entry) → T (isVariable e) → NonEmpty e
+  variable-filled e v = let r = variable-T e .0 v in (inl (r .1 .1 .0), r .0)
 
   small : (i : ℕ) → i < length ds → T (isVariable (at ds i)) → (at ds i .count .magnitude < cap) × (extent (at ds i) < cap)
   small i l v = (omega (arith, count-sound b (laid .rules) i l), omega (arith, in-product i l (variable-filled (at ds i) v)))
@@ -165,7 +165,7 @@ module _ (b : List ℕ) (sets : Sets) (laid : Laid b sets) where
 
     -- where there are none, the tally is zero
     no-tally : nonEmpty e ≡ false → tallyIs tally ≡ record { bad = 0; counts = 0 ∷ 0 ∷ 0 ∷ 0 ∷ []; totals = 0 ∷ 0 ∷ 0 ∷ 0 ∷ [] }
-    unfolding tallyIs tallyOf statesFrom countOf totalOf sum capped firstBad
+    unfolding tallyIs tallyOf statesFrom countOfKind totalOfKind sum capped firstBad
     no-tally z = rw (states-of b ds, ← here, no-count e fit (rule8-sound b (laid .rules) i l) z)
 
     described : describedRules b ≡ (statesFit ds tally i orElse rule16 ds tally)
@@ -200,7 +200,7 @@ module _ (b : List ℕ) (sets : Sets) (laid : Laid b sets) where
 
         -- the states lie in the product
         pub states-inside : getD (sets .offsets) i 0 + 1387 * getD (sets .counts) i 0 ≤ length b
-        states-inside = rw place-is (omega (arith, right, size-is, rule12-sound b (laid .rules) i l (rw full tt) .1))
+        states-inside = rw place-is (omega (arith, right, size-is, rule12-sound b (laid .rules) i l (nonEmpty-T e .0 (rw full tt)) .1))
 
         module _ (t : TallyRead) (h : t ≡ tallyIs (tallyOf (statesFrom b (getD (sets .offsets) i 0) (getD (sets .counts) i 0)))) where
           tallied : t ≡ tallyIs tally

@@ -18,7 +18,7 @@ use Rattle.layout.specs.States.{Tally, isStatesAt, statesEntry, ofKind}
 use Rattle.layout.specs.Rules.{isVariableAt, isFilled, rule16At, rule16}
 use Rattle.layout.specs.Answers.{countOf, recordSizeOf}
 use Rattle.layout.proofs.Laws.{some-same, count-same, find-same, some-found, first-found, count-none, count-found, find-bounds}
-use Rattle.layout.proofs.Faults.{variable-T, kind-most}
+use Rattle.layout.proofs.Tests.{variable-T, variable-kind}
 use Rattle.layout.proofs.Padded.{padded-at}
 use Rattle.states.specs.States.{cap, capped, tallyIs}
 use Rattle.states.proofs.Sums.{capped-eqb}
@@ -47,8 +47,8 @@ variable-role e = go (isVariable e) refl
   where
     go : (v : Bool) → isVariable e ≡ v → (leb 1 (roleOf e) && leb (roleOf e) 4) ≡ v
     go true h =
-        let k : 0 < kindOf e = variable-T e .0 (rw h tt) .1 .1 .1 in
-        rw (role-kind e h, le-leb 1 (kindOf e) k, le-leb (kindOf e) 4 (kind-most e))
+        let k = variable-kind e (variable-T e .0 (rw h tt)) in
+        rw (role-kind e h, le-leb 1 (kindOf e) (k .0), le-leb (kindOf e) 4 (k .1))
     go false h = rw (role-states e h) (other (isStates e))
       where
         other : (s : Bool) → (leb 1 (cond s 5 0) && leb (cond s 5 0) 4) ≡ false
@@ -60,7 +60,7 @@ states-role e = go (isVariable e) refl
   where
     go : (v : Bool) → isVariable e ≡ v → (leb 5 (roleOf e) && leb (roleOf e) 5) ≡ isStates e
     go true h =
-        let k : kindOf e < 5 = let m = kind-most e in omega arith in
+        let k : kindOf e < 5 = omega (arith, variable-kind e (variable-T e .0 (rw h tt)) .1) in
         rw (role-kind e h, lt-leb 5 (kindOf e) k, not-both e h)
     go false h = rw (role-states e h) (other (isStates e))
       where

@@ -8,7 +8,7 @@ use lib.Dec.{eqb}
 use lib.ListN.{length, getD}
 use Rattle.layout.specs.Bytes.{within}
 use Rattle.layout.specs.Answer.{Answer, accepted, need, _orElse_}
-use Rattle.layout.specs.Search.{find, firstRule}
+use Rattle.layout.specs.Search.{find}
 use Rattle.layout.specs.Entries.{directory}
 use Rattle.layout.specs.States.{statesEntry, statesOf, tallyOf}
 use Rattle.layout.specs.Rules.{headerRules, statesFit, rule16}
@@ -34,7 +34,7 @@ rule16By sets tallied totals =
 
 -- a product that meets rules 1 to 14, and its directory's numbers
 pub record Laid (b : List ℕ) (sets : Sets) : Type 0 where
-  pub rules : firstRule headerRules b (length b) ≡ accepted
+  pub rules : headerRules b (length b) ≡ accepted
   pub held : sets ≡ setsOf (directory b)
 
 -- rules 15 and 16, where exactly one entry describes the states
