@@ -18,25 +18,25 @@ use Rattle.layout.specs.Answer.{need, _orElse_}
 use Rattle.layout.specs.Search.{laidOut}
 use Rattle.layout.proofs.Laws.{laidOut-take}
 use Rattle.text.proofs.Parts.{byte-part}
-use Rattle.lines.specs.Table.{firstBad}
+use Rattle.lines.specs.Table.{badPlace}
 use Rattle.lines.proofs.Spans.{bad-bounds}
 
 answer : (n e : ℕ) (ks : List Class) (b : List ℕ) (p : ℕ) → p + length ks ≤ length b
-    → laidOut n e p ks (drop p b) ≡ need (eqb (firstBad ks b p) (p + length ks)) n (firstBad ks b p) e
-unfolding laidOut firstBad byteAt
+    → laidOut n e p ks (drop p b) ≡ need (eqb (badPlace ks b p) (p + length ks)) n (badPlace ks b p) e
+unfolding laidOut badPlace byteAt
 answer n e [] b p h = rw (add-zero p, eq-eqb p p refl)
 answer n e (k ∷ ks) b p h =
     rw (drop-cons b p 0 (omega arith), answer n e ks b (suc p) (omega arith), add-suc p (length ks), suc-add p (length ks))
     (go (fits k (getD b p 0)) refl)
   where
     go : (t : Bool) → fits k (getD b p 0) ≡ t
-        → (need t n p e orElse need (eqb (firstBad ks b (suc p)) (suc (p + length ks))) n (firstBad ks b (suc p)) e)
-        ≡ need (eqb (cond t (firstBad ks b (suc p)) p) (suc (p + length ks))) n (cond t (firstBad ks b (suc p)) p) e
+        → (need t n p e orElse need (eqb (badPlace ks b (suc p)) (suc (p + length ks))) n (badPlace ks b (suc p)) e)
+        ≡ need (eqb (cond t (badPlace ks b (suc p)) p) (suc (p + length ks))) n (cond t (badPlace ks b (suc p)) p) e
     go true q = refl
     go false q = rw (ne-eqb p (suc (p + length ks)) (λ m. omega arith))
 
 -- `ks` is the layout `js` in another form, and m the place behind it
-pub header-answer : (n e : ℕ) (ks js : List Class) (b : List ℕ) (p r m : ℕ) → ks ≡ js → r ≡ firstBad ks b p → p + length js ≡ m → m ≤ length b
+pub header-answer : (n e : ℕ) (ks js : List Class) (b : List ℕ) (p r m : ℕ) → ks ≡ js → r ≡ badPlace ks b p → p + length js ≡ m → m ≤ length b
     → laidOut n e p js (drop p b) ≡ need (eqb r m) n r e
 header-answer n e ks js b p r m same found q h = rw (found, same, ← q) (answer n e js b p (omega arith))
 
@@ -55,7 +55,7 @@ module _ (b : List ℕ) (at : ℕ) where
   unfolding linesOf
   dsd-lines h = rw (first-byte, ne-eqb (getD b at 0) 32 h)
 
-  pub dsd-answer : (ls : List Line) (ks : List Class) (r : ℕ) → linesOf (part b at 280) ≡ ls → ks ≡ layout ls → length ks ≡ 280 → r ≡ firstBad ks b at → at + 280 ≤ length b
+  pub dsd-answer : (ls : List Line) (ks : List Class) (r : ℕ) → linesOf (part b at 280) ≡ ls → ks ≡ layout ls → length ks ≡ 280 → r ≡ badPlace ks b at → at + 280 ≤ length b
       → (e : ℕ) → laidOut 8 e at (layout (linesOf (part b at 280))) (part b at 280) ≡ need (eqb r (at + 280)) 8 r e
   unfolding part
   dsd-answer ls ks r which same long found h e =
@@ -67,20 +67,20 @@ module _ (b : List ℕ) (at : ℕ) where
       let q : at + 280 - at ≡ 280 = omega arith in
       rw (q, length-take-le 280 (drop at b) (rw (length-drop at b) (omega arith))) (omega arith)
 
-  part-bad : (ks : List Class) (p n : ℕ) → p + length ks ≤ n → at + firstBad ks (part b at n) p ≡ firstBad ks b (at + p)
-  unfolding firstBad
+  part-bad : (ks : List Class) (p n : ℕ) → p + length ks ≤ n → at + badPlace ks (part b at n) p ≡ badPlace ks b (at + p)
+  unfolding badPlace
   part-bad [] p n h = refl
   part-bad (k ∷ ks) p n h = rw (byte-part b at n p (omega arith)) (go (fits k (byteAt b (at + p))) (part-bad ks (suc p) n (omega arith)))
     where
-      go : (u : Bool) → at + firstBad ks (part b at n) (suc p) ≡ firstBad ks b (at + suc p) → at + cond u (firstBad ks (part b at n) (suc p)) p ≡ cond u (firstBad ks b (suc (at + p))) (at + p)
+      go : (u : Bool) → at + badPlace ks (part b at n) (suc p) ≡ badPlace ks b (at + suc p) → at + cond u (badPlace ks (part b at n) (suc p)) p ≡ cond u (badPlace ks b (suc (at + p))) (at + p)
       go true e = e ∙ rw (add-suc at p)
       go false e = refl
 
-  module _ (ks : List Class) (r : ℕ) (long : length ks ≡ 280) (found : r ≡ firstBad ks (take (at + 280 - at) (drop at b)) 0) where
+  module _ (ks : List Class) (r : ℕ) (long : length ks ≡ 280) (found : r ≡ badPlace ks (take (at + 280 - at) (drop at b)) 0) where
     pub dsd-inside : r ≤ 280
     dsd-inside = omega (arith, bad-bounds ks (take (at + 280 - at) (drop at b)) 0 .1)
 
-    pub dsd-place : at + r ≡ firstBad ks b at
+    pub dsd-place : at + r ≡ badPlace ks b at
     unfolding part
     dsd-place =
         let q : at + 280 - at ≡ 280 = omega arith in

@@ -15,7 +15,7 @@ use Rattle.layout.specs.Bytes.{part}
 use Rattle.layout.specs.Text.{Class, exactly, plain, digit, literal, s, sAB, valueClasses}
 use Rattle.layout.proofs.Laws.{and-T}
 use Rattle.lines.specs.declared.Line.{Line}
-use Rattle.lines.specs.Table.{firstBad, valueLaid, widthFits, behind, lineLaid, lineFits, lineOf, linesLaid, linesFit, tableFits}
+use Rattle.lines.specs.Table.{badPlace, valueLaid, widthFits, behind, lineLaid, lineFits, lineOf, linesLaid, linesFit, tableFits}
 use Rattle.lines.proofs.Spans.{after-good, after-bad, length-literal}
 use Rattle.lines.proofs.Values.{text-laid, flag-laid, type-laid, whole-laid, thousandths-laid, millionths-laid, flag-width, type-width, whole-width, thousandths-width, millionths-width}
 
@@ -77,8 +77,8 @@ width-fits m from l k = let q : l .value + l .width - l .value ≡ l .width = om
 
 -- ---- the spans of a line
 
-pub line-spare : (t b : List ℕ) (from : ℕ) (l : Line) → l .kind ≡ 32 → from ≡ firstBad (lineLaid t from l) b from
-unfolding lineLaid firstBad
+pub line-spare : (t b : List ℕ) (from : ℕ) (l : Line) → l .kind ≡ 32 → from ≡ badPlace (lineLaid t from l) b from
+unfolding lineLaid badPlace
 line-spare t b from l e = rw (eq-eqb (l .kind) 32 e)
 
 module _ (t b : List ℕ) (from : ℕ) (l : Line) (fit : T (lineFits (length t) from l)) (e : l .kind ≡ 32 → ⊥) where
@@ -97,13 +97,13 @@ module _ (t b : List ℕ) (from : ℕ) (l : Line) (fit : T (lineFits (length t) 
   to-value = omega (arith, length-span t from (l .value) (known .before) (omega (arith, known .inside)), known .before)
 
   -- r is where the literal bytes end
-  module _ (r : ℕ) (found : r ≡ firstBad (literal (part t from (l .value - from))) b from) where
-    pub line-before : (r ≡ l .value → ⊥) → r ≡ firstBad (lineLaid t from l) b from
+  module _ (r : ℕ) (found : r ≡ badPlace (literal (part t from (l .value - from))) b from) where
+    pub line-before : (r ≡ l .value → ⊥) → r ≡ badPlace (lineLaid t from l) b from
     unfolding ahead
     line-before h = found ∙ sym (rw laid (after-bad ahead _ b from (l .value) to-value (λ q. h (found ∙ q))))
 
-    pub line-value : r ≡ l .value → (v : ℕ) → v ≡ firstBad (valueLaid (l .kind) (l .value + l .width - l .value)) b (l .value)
-        → v ≡ firstBad (lineLaid t from l) b from
+    pub line-value : r ≡ l .value → (v : ℕ) → v ≡ badPlace (valueLaid (l .kind) (l .value + l .width - l .value)) b (l .value)
+        → v ≡ badPlace (lineLaid t from l) b from
     unfolding ahead
     line-value h v then =
         let q : l .value + l .width - l .value ≡ l .width = omega arith in
@@ -141,14 +141,14 @@ fitting t starts keys kinds widths fit =
 -- before the line i of n, where the values end at `from`: what is left fits, and decides the whole
 pub record Turn (t b : List ℕ) (f : ℕ → Line) (n from i : ℕ) : Type 0 where
   pub fits : T (linesFit (length t) f from i (n - i))
-  pub left : firstBad (linesLaid t f 0 0 n) b 0 ≡ firstBad (linesLaid t f from i (n - i)) b from
+  pub left : badPlace (linesLaid t f 0 0 n) b 0 ≡ badPlace (linesLaid t f from i (n - i)) b from
 
 pub turn-start : (t b : List ℕ) (f : ℕ → Line) (n : ℕ) → T (linesFit (length t) f 0 0 n) → Turn t b f n 0 0
 turn-start t b f n fit = record { fits = rw (sub-zero n) fit; left = rw (sub-zero n) refl }
 
 module _ (t b : List ℕ) (f : ℕ → Line) (n from i : ℕ) (so : Turn t b f n from i) where
-  pub turn-end : n ≤ i → from ≡ firstBad (linesLaid t f 0 0 n) b 0
-  unfolding linesLaid firstBad
+  pub turn-end : n ≤ i → from ≡ badPlace (linesLaid t f 0 0 n) b 0
+  unfolding linesLaid badPlace
   turn-end h = let q : n - i ≡ 0 = omega arith in sym (so .left ∙ rw q)
 
   module _ (h : i < n) where
@@ -166,14 +166,14 @@ module _ (t b : List ℕ) (f : ℕ → Line) (n from i : ℕ) (so : Turn t b f n
     pub turn-fits : (l : Line) → l ≡ f i → T (lineFits (length t) from l)
     turn-fits l e = rw e (here-fits .0)
 
-    module _ (l : Line) (e : l ≡ f i) (end r : ℕ) (ends : end ≡ behind from l) (found : r ≡ firstBad (lineLaid t from l) b from) where
-      there : r ≡ firstBad (lineLaid t from (f i)) b from
+    module _ (l : Line) (e : l ≡ f i) (end r : ℕ) (ends : end ≡ behind from l) (found : r ≡ badPlace (lineLaid t from l) b from) where
+      there : r ≡ badPlace (lineLaid t from (f i)) b from
       there = rw e at found
 
       reach : end ≡ from + length (lineLaid t from (f i))
       reach = ends ∙ rw e (line-end t from (f i) (here-fits .0))
 
-      pub turn-bad : (r ≡ end → ⊥) → r ≡ firstBad (linesLaid t f 0 0 n) b 0
+      pub turn-bad : (r ≡ end → ⊥) → r ≡ badPlace (linesLaid t f 0 0 n) b 0
       turn-bad g = sym (so .left ∙ rw here-laid (after-bad (lineLaid t from (f i)) _ b from end reach (λ q. g (there ∙ q)) ∙ sym there))
 
       pub turn-good : r ≡ end → Turn t b f n end (i + 1)

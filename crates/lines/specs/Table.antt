@@ -10,9 +10,9 @@ use Rattle.layout.specs.Text.{Class, plain, among, fits, s, sAB, literal, value
 use Rattle.lines.specs.declared.Line.{Line}
 
 -- the first place from p on whose byte is not of its class; the place behind the classes where each is
-unfoldable pub firstBad : List Class → List ℕ → ℕ → ℕ
-firstBad [] b p = p
-firstBad (k ∷ ks) b p = cond (fits k (byteAt b p)) (firstBad ks b (suc p)) p
+unfoldable pub badPlace : List Class → List ℕ → ℕ → ℕ
+badPlace [] b p = p
+badPlace (k ∷ ks) b p = cond (fits k (byteAt b p)) (badPlace ks b (suc p)) p
 
 -- the byte at a place is not the template's
 unfoldable pub differs : List ℕ → List ℕ → ℕ → Bool

@@ -12,7 +12,7 @@ ghost use Rattle.layout.specs.Rules.{linesOf};
 ghost use Rattle.layout.specs.Search.{some, laidOut};
 ghost use Rattle.layout.specs.Text.{layout, sign, among, fits, spare, s, sAB, literal, valueClasses, lineClasses};
 ghost use Rattle.text.specs.Runs.{Skipped};
-ghost use Rattle.lines.specs.Table.{firstBad, differs, valueLaid, widthFits, behind, lineLaid, lineFits, lineOf, tableLaid, tableFits};
+ghost use Rattle.lines.specs.Table.{badPlace, differs, valueLaid, widthFits, behind, lineLaid, lineFits, lineOf, tableLaid, tableFits};
 
 // The kinds of a table, after the notation of document 01: a spare; text, of q or c; a flag, 0 or 1; a type, one of M A G R; a sign and digits, s;
 // the same with a point and three decimals, or (u, the one kind left) six.
@@ -310,7 +310,7 @@ fn literal_blocks(p: &[u8], template: &[u8], from: usize, to: usize) -> usize
 // The first byte of a span that is not as laid out, or its end.
 fn literal_span(p: &[u8], template: &[u8], from: usize, to: usize) -> usize
     requires { ⌜ (from ≤ to) × (to ≤ length (now template)) × (to ≤ length (now p)) ⌝ }
-    ensures { λ r. ⌜ r ≡ firstBad (literal (part (now (template .entry)) from (to - from))) (now (p .entry)) from ⌝ }
+    ensures { λ r. ⌜ r ≡ badPlace (literal (part (now (template .entry)) from (to - from))) (now (p .entry)) from ⌝ }
 {
     let mut i = literal_blocks(p, template, from, to);
     while i < to {
@@ -325,7 +325,7 @@ fn literal_span(p: &[u8], template: &[u8], from: usize, to: usize) -> usize
 // A spare line: so many blanks and byte 10.
 fn spare_check(p: &[u8], from: usize, blanks: usize) -> usize
     requires { ⌜ from + blanks < length (now p) ⌝ }
-    ensures { λ r. ⌜ r ≡ firstBad (lineClasses (spare blanks)) (now (p .entry)) from ⌝ }
+    ensures { λ r. ⌜ r ≡ badPlace (lineClasses (spare blanks)) (now (p .entry)) from ⌝ }
 {
     let end = from + blanks;
     let bad = text::first_not_blank(p, from, end);
@@ -341,7 +341,7 @@ fn spare_check(p: &[u8], from: usize, blanks: usize) -> usize
 // A sign and digits.
 fn whole_check(p: &[u8], from: usize, to: usize) -> usize
     requires { ⌜ (from < to) × (to ≤ length (now p)) ⌝ }
-    ensures { λ r. ⌜ r ≡ firstBad (valueClasses (s (to - (from + 1)))) (now (p .entry)) from ⌝ }
+    ensures { λ r. ⌜ r ≡ badPlace (valueClasses (s (to - (from + 1)))) (now (p .entry)) from ⌝ }
 {
     if !is_sign(p[from]) {
         return from;
@@ -352,7 +352,7 @@ fn whole_check(p: &[u8], from: usize, to: usize) -> usize
 // A sign, digits, a point and digits.
 fn decimal_check(p: &[u8], from: usize, point: usize, to: usize) -> usize
     requires { ⌜ (from < point) × (point < to) × (to ≤ length (now p)) ⌝ }
-    ensures { λ r. ⌜ r ≡ firstBad (valueClasses (sAB (point - (from + 1)) (to - (point + 1)))) (now (p .entry)) from ⌝ }
+    ensures { λ r. ⌜ r ≡ badPlace (valueClasses (sAB (point - (from + 1)) (to - (point + 1)))) (now (p .entry)) from ⌝ }
 {
     let bad = whole_check(p, from, point);
     if bad != point {
@@ -366,7 +366,7 @@ fn decimal_check(p: &[u8], from: usize, point: usize, to: usize) -> usize
 
 fn value_check(p: &[u8], from: usize, kind: u8, to: usize) -> usize
     requires { ⌜ (from ≤ to) × (to ≤ length (now p)) × T (widthFits kind (to - from)) ⌝ }
-    ensures { λ r. ⌜ r ≡ firstBad (valueLaid kind (to - from)) (now (p .entry)) from ⌝ }
+    ensures { λ r. ⌜ r ≡ badPlace (valueLaid kind (to - from)) (now (p .entry)) from ⌝ }
 {
     if kind == TEXT {
         return text::first_not_plain(p, from, to);
@@ -406,7 +406,7 @@ fn line_end(line: Line, from: usize) -> usize
 // One line: the literal bytes from the last value on, and the value. A spare is left to the next line's literal bytes.
 fn line_check(p: &[u8], template: &[u8], from: usize, line: Line) -> usize
     requires { ⌜ T (lineFits (length (now template)) from line) × (length (now template) ≤ length (now p)) ⌝ }
-    ensures { λ r. ⌜ r ≡ firstBad (lineLaid (now (template .entry)) from line) (now (p .entry)) from ⌝ }
+    ensures { λ r. ⌜ r ≡ badPlace (lineLaid (now (template .entry)) from line) (now (p .entry)) from ⌝ }
 {
     if line.kind == SPARE {
         return from;
@@ -452,7 +452,7 @@ fn lines_check(
     widths: &[u8],
 ) -> usize
     requires { ⌜ T (tableFits (now template) (now starts) (now keys) (now kinds) (now widths)) × (length (now template) ≤ length (now p)) ⌝ }
-    ensures { λ r. ⌜ r ≡ firstBad (tableLaid (now (template .entry)) (now (starts .entry)) (now (keys .entry)) (now (kinds .entry)) (now (widths .entry))) (now (p .entry)) 0 ⌝ }
+    ensures { λ r. ⌜ r ≡ badPlace (tableLaid (now (template .entry)) (now (starts .entry)) (now (keys .entry)) (now (kinds .entry)) (now (widths .entry))) (now (p .entry)) 0 ⌝ }
 {
     let mut from = 0;
     let mut i = 0;
