@@ -35,10 +35,10 @@ answer n e (k ∷ ks) b p h =
     go true q = refl
     go false q = rw (ne-eqb p (suc (p + length ks)) (λ m. omega arith))
 
--- `ks` is the layout `js` in another form, and m the place behind it
-pub header-answer : (n e : ℕ) (ks js : List Class) (b : List ℕ) (p r m : ℕ) → ks ≡ js → r ≡ badPlace ks b p → p + length js ≡ m → m ≤ length b
-    → laidOut n e p js (drop p b) ≡ need (eqb r m) n r e
-header-answer n e ks js b p r m same found q h = rw (found, same, ← q) (answer n e js b p (omega arith))
+-- m is the place behind the layout
+pub header-answer : (n e : ℕ) (ks : List Class) (b : List ℕ) (p r m : ℕ) → r ≡ badPlace ks b p → p + length ks ≡ m → m ≤ length b
+    → laidOut n e p ks (drop p b) ≡ need (eqb r m) n r e
+header-answer n e ks b p r m found q h = rw (found, ← q) (answer n e ks b p (omega arith))
 
 -- ---- a DSD
 
@@ -55,11 +55,11 @@ module _ (b : List ℕ) (at : ℕ) where
   unfolding linesOf
   dsd-lines h = rw (first-byte, ne-eqb (getD b at 0) 32 h)
 
-  pub dsd-answer : (ls : List Line) (ks : List Class) (r : ℕ) → linesOf (part b at 280) ≡ ls → ks ≡ layout ls → length ks ≡ 280 → r ≡ badPlace ks b at → at + 280 ≤ length b
+  pub dsd-answer : (ls : List Line) (r : ℕ) → linesOf (part b at 280) ≡ ls → length (layout ls) ≡ 280 → r ≡ badPlace (layout ls) b at → at + 280 ≤ length b
       → (e : ℕ) → laidOut 8 e at (layout (linesOf (part b at 280))) (part b at 280) ≡ need (eqb r (at + 280)) 8 r e
   unfolding part
-  dsd-answer ls ks r which same long found h e =
-      rw (which, ← same) (laidOut-take 8 e ks (drop at b) at 280 (omega arith) ∙ header-answer 8 e ks ks b at r (at + 280) refl found (omega arith) h)
+  dsd-answer ls r which long found h e =
+      rw which (laidOut-take 8 e (layout ls) (drop at b) at 280 (omega arith) ∙ header-answer 8 e (layout ls) b at r (at + 280) found (omega arith) h)
 
   -- the DSD by itself, as the code lends it: r is its first bad place
   pub dsd-long : at + 280 ≤ length b → 280 ≤ length (take (at + 280 - at) (drop at b))

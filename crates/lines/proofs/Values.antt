@@ -5,7 +5,7 @@ use mathlib.Core.Bool.{true, false}
 use mathlib.Core.List.{List, [], _∷_}
 use mathlib.Core.Path.{_≡_, sym, _∙_}
 use native.Mathlib.Omega.{arith}
-use lib.Dec.{T, eqb, leb, eqb→eq, leb→le}
+use lib.Dec.{T, eqb→eq, leb→le}
 use lib.ListN.{length, getD, replicate, length-replicate}
 use borrow.Author.Tests.{eq-eqb, ne-eqb}
 use Rattle.layout.specs.Bytes.{bytes}
@@ -85,18 +85,22 @@ module _ (k w : ℕ) where
   unfolding widthFits
   thousandths-width e h = leb→le 5 w (rw e at h)
 
-  module _ (a1 : k ≡ 113 → ⊥) (a2 : k ≡ 102 → ⊥) (a3 : k ≡ 116 → ⊥) (a4 : k ≡ 115 → ⊥) (a5 : k ≡ 109 → ⊥) where
+  module _ (a1 : k ≡ 113 → ⊥) (a2 : k ≡ 32 → ⊥) (a3 : k ≡ 102 → ⊥) (a4 : k ≡ 116 → ⊥) (a5 : k ≡ 115 → ⊥) (a6 : k ≡ 109 → ⊥) where
     pub millionths-width : T (widthFits k w) → 8 ≤ w
     unfolding widthFits
-    millionths-width h = leb→le 8 w (rw (ne-eqb k 113 a1, ne-eqb k 102 a2, ne-eqb k 116 a3, ne-eqb k 115 a4, ne-eqb k 109 a5) at h)
+    millionths-width h = leb→le 8 w (rw (ne-eqb k 113 a1, ne-eqb k 32 a2, ne-eqb k 102 a3, ne-eqb k 116 a4, ne-eqb k 115 a5, ne-eqb k 109 a6) at h)
 
     pub millionths-laid : valueLaid k w ≡ valueClasses (sAB (w - 8) 6)
     unfolding valueLaid
-    millionths-laid = rw (ne-eqb k 113 a1, ne-eqb k 102 a2, ne-eqb k 116 a3, ne-eqb k 115 a4, ne-eqb k 109 a5)
+    millionths-laid = rw (ne-eqb k 113 a1, ne-eqb k 32 a2, ne-eqb k 102 a3, ne-eqb k 116 a4, ne-eqb k 115 a5, ne-eqb k 109 a6)
 
 pub text-laid : (k w : ℕ) → k ≡ 113 → valueLaid k w ≡ replicate w plain
 unfolding valueLaid
 text-laid k w e = rw e
+
+pub blanks-laid : (k w : ℕ) → k ≡ 32 → valueLaid k w ≡ replicate w (exactly 32)
+unfolding valueLaid
+blanks-laid k w e = rw e
 
 pub flag-laid : (k w : ℕ) → k ≡ 102 → valueLaid k w ≡ among (bytes "01") ∷ []
 unfolding valueLaid
