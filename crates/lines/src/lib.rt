@@ -1,6 +1,8 @@
 // The check of header lines against the layout of document 01, "Header text": the first byte that is not as laid out.
 // It goes row by row through a constant table of line start, kind and width, and span by span: the literal bytes from the last value on, and the value.
 // A spare's value is its blanks.
+use dsd::Entry;
+use layout::MainHeader;
 ghost use mathlib.Core.Path.{_≡_};
 ghost use Prim.Native.Nat.{ℕ, _+_, _-_, _≤_, _<_};
 ghost use mathlib.Core.Bool.{not};
@@ -14,7 +16,7 @@ ghost use Rattle.layout.specs.Rules.{linesOf};
 ghost use Rattle.layout.specs.Search.{some, laidOut};
 ghost use Rattle.layout.specs.Text.{Line, layout, sign, among, fits, spare, s, sAB, literal, valueClasses, lineClasses};
 ghost use Rattle.text.specs.Runs.{Skipped};
-ghost use Rattle.lines.specs.Table.{badPlace, differs, valueLaid, widthFits, rowLaid, rowFits, rowOf, tableFits, TableOf};
+ghost use Rattle.lines.specs.Table.{mphSize, dsdSize, badPlace, differs, valueLaid, widthFits, rowLaid, rowFits, rowOf, tableFits, TableOf};
 
 // The kinds of a table, after the notation of document 01: a spare; text, of q or c; a flag, 0 or 1; a type, one of M A G R; a sign and digits, s;
 // the same with a point and three decimals, or (u, the one kind left) six.
@@ -168,7 +170,7 @@ const MPH_WIDTHS: [u8; 41] = [
 
 // The main header's literal bytes; fillers stand for each value and for a spare's blanks. (They differ from byte to byte: a run of equal bytes is slower to
 // set up.)
-const MPH_TEMPLATE: [u8; 1247] = *b"\
+const MPH_TEMPLATE: [u8; MainHeader::SIZE] = *b"\
     PRODUCT=\"01234567890123456789012345678901234567890123456789012345678901\"\n\
     PROC_STAGE= \n\
     REF_DOC=\"01234567890123456789012\"\n\
@@ -221,7 +223,7 @@ const DSD_KINDS: [u8; 8] = *b"qtqssss ";
 
 const DSD_WIDTHS: [u8; 8] = [28, 1, 62, 21, 21, 11, 11, 32];
 
-const DSD_TEMPLATE: [u8; 280] = *b"\
+const DSD_TEMPLATE: [u8; Entry::SIZE] = *b"\
     DS_NAME=\"0123456789012345678901234567\"\n\
     DS_TYPE=M\n\
     FILENAME=\"01234567890123456789012345678901234567890123456789012345678901\"\n\
@@ -460,8 +462,8 @@ fn lines_check(
 
 // The first byte of the main header that is not as laid out, or its end.
 pub fn main_header_check(p: &[u8]) -> usize
-    requires { ⌜ 1247 ≤ length (now p) ⌝ }
-    ensures { λ r. ⌜ laidOut 3 128 0 (layout mph) (now (p .entry)) ≡ need (eqb r 1247) 3 r 128 ⌝ }
+    requires { ⌜ mphSize ≤ length (now p) ⌝ }
+    ensures { λ r. ⌜ laidOut 3 128 0 (layout mph) (now (p .entry)) ≡ need (eqb r mphSize) 3 r 128 ⌝ }
 {
     lines_check(
         p,
@@ -475,13 +477,13 @@ pub fn main_header_check(p: &[u8]) -> usize
 
 // The same of the DSD that begins at `at`. A DSD whose first byte is a blank is a spare.
 pub fn dsd_check(p: &[u8], at: usize) -> usize
-    requires { ⌜ at + 280 ≤ length (now p) ⌝ }
-    ensures { λ r. ⌜ ((e : ℕ) → laidOut 8 e at (layout (linesOf (part (now (p .entry)) at 280))) (part (now (p .entry)) at 280) ≡ need (eqb r (at + 280)) 8 r e) ⌝ }
+    requires { ⌜ at + dsdSize ≤ length (now p) ⌝ }
+    ensures { λ r. ⌜ ((e : ℕ) → laidOut 8 e at (layout (linesOf (part (now (p .entry)) at dsdSize))) (part (now (p .entry)) at dsdSize) ≡ need (eqb r (at + dsdSize)) 8 r e) ⌝ }
 {
     if p[at] == b' ' {
-        return spare_check(p, at, 279);
+        return spare_check(p, at, Entry::SIZE - 1);
     }
-    let end = at + 280;
+    let end = at + Entry::SIZE;
     let bad = lines_check(
         &p[at..end],
         &DSD_TEMPLATE,

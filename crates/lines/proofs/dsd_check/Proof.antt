@@ -14,6 +14,9 @@ use Rattle.lines.proofs.dsd_check.Tie as tie
 shared-slice-read-if1 : tie.Need-shared-slice-read-if1
 shared-slice-read-if1 c = search needs
 
+sub-spare-check : tie.Need-sub-spare-check
+sub-spare-check c = search needs
+
 spare-check-requires : tie.Need-spare-check-requires
 spare-check-requires c κs = search needs
 
@@ -67,6 +70,7 @@ dsd-check-spec =
     tie.close
     (tie.spec
     shared-slice-read-if1
+    sub-spare-check
     spare-check-requires
     returns
     add-end
