@@ -18,70 +18,70 @@ use Rattle.layout.specs.Answer.{need, _orElse_}
 use Rattle.layout.specs.Search.{laidOut}
 use Rattle.layout.proofs.Laws.{laidOut-take}
 use Rattle.text.proofs.Parts.{byte-part}
-use Rattle.lines.specs.Table.{firstBad}
+use Rattle.lines.specs.Table.{dsdSize, badPlace}
 use Rattle.lines.proofs.Spans.{bad-bounds}
 
 answer : (n e : ℕ) (ks : List Class) (b : List ℕ) (p : ℕ) → p + length ks ≤ length b
-    → laidOut n e p ks (drop p b) ≡ need (eqb (firstBad ks b p) (p + length ks)) n (firstBad ks b p) e
-unfolding laidOut firstBad byteAt
+    → laidOut n e p ks (drop p b) ≡ need (eqb (badPlace ks b p) (p + length ks)) n (badPlace ks b p) e
+unfolding laidOut badPlace byteAt
 answer n e [] b p h = rw (add-zero p, eq-eqb p p refl)
 answer n e (k ∷ ks) b p h =
     rw (drop-cons b p 0 (omega arith), answer n e ks b (suc p) (omega arith), add-suc p (length ks), suc-add p (length ks))
     (go (fits k (getD b p 0)) refl)
   where
     go : (t : Bool) → fits k (getD b p 0) ≡ t
-        → (need t n p e orElse need (eqb (firstBad ks b (suc p)) (suc (p + length ks))) n (firstBad ks b (suc p)) e)
-        ≡ need (eqb (cond t (firstBad ks b (suc p)) p) (suc (p + length ks))) n (cond t (firstBad ks b (suc p)) p) e
+        → (need t n p e orElse need (eqb (badPlace ks b (suc p)) (suc (p + length ks))) n (badPlace ks b (suc p)) e)
+        ≡ need (eqb (cond t (badPlace ks b (suc p)) p) (suc (p + length ks))) n (cond t (badPlace ks b (suc p)) p) e
     go true q = refl
     go false q = rw (ne-eqb p (suc (p + length ks)) (λ m. omega arith))
 
--- `ks` is the layout `js` in another form, and m the place behind it
-pub header-answer : (n e : ℕ) (ks js : List Class) (b : List ℕ) (p r m : ℕ) → ks ≡ js → r ≡ firstBad ks b p → p + length js ≡ m → m ≤ length b
-    → laidOut n e p js (drop p b) ≡ need (eqb r m) n r e
-header-answer n e ks js b p r m same found q h = rw (found, same, ← q) (answer n e js b p (omega arith))
+-- m is the place behind the layout
+pub header-answer : (n e : ℕ) (ks : List Class) (b : List ℕ) (p r m : ℕ) → r ≡ badPlace ks b p → p + length ks ≡ m → m ≤ length b
+    → laidOut n e p ks (drop p b) ≡ need (eqb r m) n r e
+header-answer n e ks b p r m found q h = rw (found, ← q) (answer n e ks b p (omega arith))
 
 -- ---- a DSD
 
 module _ (b : List ℕ) (at : ℕ) where
-  first-byte : byteAt (part b at 280) 0 ≡ getD b at 0
+  first-byte : byteAt (part b at dsdSize) 0 ≡ getD b at 0
   unfolding part byteAt
-  first-byte = getD-take 280 (drop at b) 0 0 (omega arith) ∙ getD-drop at b 0 0 ∙ rw (add-zero at)
+  first-byte = getD-take dsdSize (drop at b) 0 0 (omega arith) ∙ getD-drop at b 0 0 ∙ rw (add-zero at)
 
-  pub spare-lines : getD b at 0 ≡ 32 → linesOf (part b at 280) ≡ spareDsd
+  pub spare-lines : getD b at 0 ≡ 32 → linesOf (part b at dsdSize) ≡ spareDsd
   unfolding linesOf
   spare-lines h = rw (first-byte, h)
 
-  pub dsd-lines : (getD b at 0 ≡ 32 → ⊥) → linesOf (part b at 280) ≡ dsd
+  pub dsd-lines : (getD b at 0 ≡ 32 → ⊥) → linesOf (part b at dsdSize) ≡ dsd
   unfolding linesOf
   dsd-lines h = rw (first-byte, ne-eqb (getD b at 0) 32 h)
 
-  pub dsd-answer : (ls : List Line) (ks : List Class) (r : ℕ) → linesOf (part b at 280) ≡ ls → ks ≡ layout ls → length ks ≡ 280 → r ≡ firstBad ks b at → at + 280 ≤ length b
-      → (e : ℕ) → laidOut 8 e at (layout (linesOf (part b at 280))) (part b at 280) ≡ need (eqb r (at + 280)) 8 r e
+  pub dsd-answer : (ls : List Line) (r : ℕ) → linesOf (part b at dsdSize) ≡ ls → length (layout ls) ≡ dsdSize → r ≡ badPlace (layout ls) b at → at + dsdSize ≤ length b
+      → (e : ℕ) → laidOut 8 e at (layout (linesOf (part b at dsdSize))) (part b at dsdSize) ≡ need (eqb r (at + dsdSize)) 8 r e
   unfolding part
-  dsd-answer ls ks r which same long found h e =
-      rw (which, ← same) (laidOut-take 8 e ks (drop at b) at 280 (omega arith) ∙ header-answer 8 e ks ks b at r (at + 280) refl found (omega arith) h)
+  dsd-answer ls r which long found h e =
+      rw which (laidOut-take 8 e (layout ls) (drop at b) at dsdSize (omega arith) ∙ header-answer 8 e (layout ls) b at r (at + dsdSize) found (omega arith) h)
 
   -- the DSD by itself, as the code lends it: r is its first bad place
-  pub dsd-long : at + 280 ≤ length b → 280 ≤ length (take (at + 280 - at) (drop at b))
+  pub dsd-long : at + dsdSize ≤ length b → dsdSize ≤ length (take (at + dsdSize - at) (drop at b))
   dsd-long h =
-      let q : at + 280 - at ≡ 280 = omega arith in
-      rw (q, length-take-le 280 (drop at b) (rw (length-drop at b) (omega arith))) (omega arith)
+      let q : at + dsdSize - at ≡ dsdSize = omega arith in
+      rw (q, length-take-le dsdSize (drop at b) (rw (length-drop at b) (omega arith))) (omega arith)
 
-  part-bad : (ks : List Class) (p n : ℕ) → p + length ks ≤ n → at + firstBad ks (part b at n) p ≡ firstBad ks b (at + p)
-  unfolding firstBad
+  part-bad : (ks : List Class) (p n : ℕ) → p + length ks ≤ n → at + badPlace ks (part b at n) p ≡ badPlace ks b (at + p)
+  unfolding badPlace
   part-bad [] p n h = refl
   part-bad (k ∷ ks) p n h = rw (byte-part b at n p (omega arith)) (go (fits k (byteAt b (at + p))) (part-bad ks (suc p) n (omega arith)))
     where
-      go : (u : Bool) → at + firstBad ks (part b at n) (suc p) ≡ firstBad ks b (at + suc p) → at + cond u (firstBad ks (part b at n) (suc p)) p ≡ cond u (firstBad ks b (suc (at + p))) (at + p)
+      go : (u : Bool) → at + badPlace ks (part b at n) (suc p) ≡ badPlace ks b (at + suc p) → at + cond u (badPlace ks (part b at n) (suc p)) p ≡ cond u (badPlace ks b (suc (at + p))) (at + p)
       go true e = e ∙ rw (add-suc at p)
       go false e = refl
 
-  module _ (ks : List Class) (r : ℕ) (long : length ks ≡ 280) (found : r ≡ firstBad ks (take (at + 280 - at) (drop at b)) 0) where
-    pub dsd-inside : r ≤ 280
-    dsd-inside = omega (arith, bad-bounds ks (take (at + 280 - at) (drop at b)) 0 .1)
+  module _ (ks : List Class) (r : ℕ) (long : length ks ≡ dsdSize) (found : r ≡ badPlace ks (take (at + dsdSize - at) (drop at b)) 0) where
+    pub dsd-inside : r ≤ dsdSize
+    dsd-inside = omega (arith, bad-bounds ks (take (at + dsdSize - at) (drop at b)) 0 .1)
 
-    pub dsd-place : at + r ≡ firstBad ks b at
+    pub dsd-place : at + r ≡ badPlace ks b at
     unfolding part
     dsd-place =
-        let q : at + 280 - at ≡ 280 = omega arith in
-        rw (found, q) (part-bad ks 0 280 (omega arith) ∙ rw (add-zero at))
+        let q : at + dsdSize - at ≡ dsdSize = omega arith in
+        rw (found, q) (part-bad ks 0 dsdSize (omega arith) ∙ rw (add-zero at))

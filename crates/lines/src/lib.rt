@@ -1,8 +1,12 @@
 // The check of header lines against the layout of document 01, "Header text": the first byte that is not as laid out.
-// It goes line by line through a constant table, and span by span: the literal bytes from the last value on, spare lines among them, and the value.
+// It goes row by row through a constant table of line start, kind and width, and span by span: the literal bytes from the last value on, and the value.
+// A spare's value is its blanks.
+use dsd::Entry;
+use layout::MainHeader;
 ghost use mathlib.Core.Path.{_≡_};
 ghost use Prim.Native.Nat.{ℕ, _+_, _-_, _≤_, _<_};
 ghost use mathlib.Core.Bool.{not};
+ghost use mathlib.Core.List.{List};
 ghost use lib.Dec.{T, eqb};
 ghost use lib.ListN.{length};
 ghost use Rattle.layout.specs.Bytes.{bytes, part};
@@ -10,9 +14,9 @@ ghost use Rattle.layout.specs.Answer.{need};
 ghost use Rattle.layout.specs.Lines.{mph};
 ghost use Rattle.layout.specs.Rules.{linesOf};
 ghost use Rattle.layout.specs.Search.{some, laidOut};
-ghost use Rattle.layout.specs.Text.{layout, sign, among, fits, spare, s, sAB, literal, valueClasses, lineClasses};
+ghost use Rattle.layout.specs.Text.{Line, layout, sign, among, fits, spare, s, sAB, literal, valueClasses, lineClasses};
 ghost use Rattle.text.specs.Runs.{Skipped};
-ghost use Rattle.lines.specs.Table.{firstBad, differs, valueLaid, widthFits, behind, lineLaid, lineFits, lineOf, tableLaid, tableFits};
+ghost use Rattle.lines.specs.Table.{mphSize, dsdSize, badPlace, differs, valueLaid, widthFits, rowLaid, rowFits, rowOf, tableFits, TableOf};
 
 // The kinds of a table, after the notation of document 01: a spare; text, of q or c; a flag, 0 or 1; a type, one of M A G R; a sign and digits, s;
 // the same with a point and three decimals, or (u, the one kind left) six.
@@ -28,9 +32,9 @@ const WHOLE: u8 = b's';
 
 const THOUSANDTHS: u8 = b'm';
 
-// The forty-one lines of the main header, by column: where each line begins, the bytes before its value, the value's kind and width.
-// Of a spare the width is its blanks. The last row is the end, where a text of no bytes stands.
-const MPH_STARTS: [u16; 42] = [
+// The forty-one lines of the main header, by column: where each line begins, the bytes before its value, the value's kind and width. (That these are
+// document 01's is `TableOf` of specs/Table.)
+const MPH_STARTS: [u16; 41] = [
     0,
     73,
     86,
@@ -72,10 +76,9 @@ const MPH_STARTS: [u16; 42] = [
     1152,
     1180,
     1206,
-    1247,
 ];
 
-const MPH_KEYS: [u8; 42] = [
+const MPH_KEYS: [u8; 41] = [
     9,
     11,
     9,
@@ -117,12 +120,11 @@ const MPH_KEYS: [u8; 42] = [
     9,
     14,
     0,
-    0,
 ];
 
-const MPH_KINDS: [u8; 42] = *b"qqq qqqq qq qsssqummmuuuq qss qsf fsssss q";
+const MPH_KINDS: [u8; 41] = *b"qqq qqqq qq qsssqummmuuuq qss qsf fsssss ";
 
-const MPH_WIDTHS: [u8; 42] = [
+const MPH_WIDTHS: [u8; 41] = [
     62,
     1,
     23,
@@ -164,23 +166,23 @@ const MPH_WIDTHS: [u8; 42] = [
     11,
     11,
     40,
-    0,
 ];
 
-// The main header's literal bytes; a filler stands for each value. (The fillers differ from byte to byte: a run of equal bytes is slower to set up.)
-const MPH_TEMPLATE: [u8; 1247] = *b"\
+// The main header's literal bytes; fillers stand for each value and for a spare's blanks. (They differ from byte to byte: a run of equal bytes is slower to
+// set up.)
+const MPH_TEMPLATE: [u8; MainHeader::SIZE] = *b"\
     PRODUCT=\"01234567890123456789012345678901234567890123456789012345678901\"\n\
     PROC_STAGE= \n\
     REF_DOC=\"01234567890123456789012\"\n\
-    \x20                                       \n\
+    0123456789012345678901234567890123456789\n\
     ACQUISITION_STATION=\"01234567890123456789\"\n\
     PROC_CENTER=\"012345\"\n\
     PROC_TIME=\"012345678901234567890123456\"\n\
     SOFTWARE_VER=\"01234567890123\"\n\
-    \x20                                       \n\
+    0123456789012345678901234567890123456789\n\
     SENSING_START=\"012345678901234567890123456\"\n\
     SENSING_STOP=\"012345678901234567890123456\"\n\
-    \x20                                       \n\
+    0123456789012345678901234567890123456789\n\
     PHASE= \n\
     CYCLE=+123\n\
     REL_ORBIT=+12345\n\
@@ -194,34 +196,34 @@ const MPH_TEMPLATE: [u8; 1247] = *b"\
     Y_VELOCITY=+1234.567890<m/s>\n\
     Z_VELOCITY=+1234.567890<m/s>\n\
     VECTOR_SOURCE=\"01\"\n\
-    \x20                                       \n\
+    0123456789012345678901234567890123456789\n\
     UTC_SBT_TIME=\"012345678901234567890123456\"\n\
     SAT_BINARY_TIME=+1234567890\n\
     CLOCK_STEP=+1234567890<ps>\n\
-    \x20                               \n\
+    01234567890123456789012345678901\n\
     LEAP_UTC=\"012345678901234567890123456\"\n\
     LEAP_SIGN=+123\n\
     LEAP_ERR=0\n\
-    \x20                                       \n\
+    0123456789012345678901234567890123456789\n\
     PRODUCT_ERR=0\n\
     TOT_SIZE=+12345678901234567890<bytes>\n\
     SPH_SIZE=+1234567890<bytes>\n\
     NUM_DSD=+1234567890\n\
     DSD_SIZE=+1234567890<bytes>\n\
     NUM_DATA_SETS=+1234567890\n\
-    \x20                                       \n\
+    0123456789012345678901234567890123456789\n\
 ";
 
 // One DSD, by the same columns.
-const DSD_STARTS: [u16; 9] = [0, 39, 49, 123, 162, 199, 219, 247, 280];
+const DSD_STARTS: [u16; 8] = [0, 39, 49, 123, 162, 199, 219, 247];
 
-const DSD_KEYS: [u8; 9] = [9, 8, 10, 10, 8, 8, 9, 0, 0];
+const DSD_KEYS: [u8; 8] = [9, 8, 10, 10, 8, 8, 9, 0];
 
-const DSD_KINDS: [u8; 9] = *b"qtqssss q";
+const DSD_KINDS: [u8; 8] = *b"qtqssss ";
 
-const DSD_WIDTHS: [u8; 9] = [28, 1, 62, 21, 21, 11, 11, 32, 0];
+const DSD_WIDTHS: [u8; 8] = [28, 1, 62, 21, 21, 11, 11, 32];
 
-const DSD_TEMPLATE: [u8; 280] = *b"\
+const DSD_TEMPLATE: [u8; Entry::SIZE] = *b"\
     DS_NAME=\"0123456789012345678901234567\"\n\
     DS_TYPE=M\n\
     FILENAME=\"01234567890123456789012345678901234567890123456789012345678901\"\n\
@@ -229,11 +231,11 @@ const DSD_TEMPLATE: [u8; 280] = *b"\
     DS_SIZE=+12345678901234567890<bytes>\n\
     NUM_DSR=+1234567890\n\
     DSR_SIZE=+1234567890<bytes>\n\
-    \x20                               \n\
+    01234567890123456789012345678901\n\
 ";
 
-// One line of a table: its value's first byte, kind and width (of a spare, its blanks).
-struct Line {
+// One row of a table: its value's first byte, kind and width.
+struct Row {
     value: usize,
     kind: u8,
     width: usize,
@@ -310,7 +312,7 @@ fn literal_blocks(p: &[u8], template: &[u8], from: usize, to: usize) -> usize
 // The first byte of a span that is not as laid out, or its end.
 fn literal_span(p: &[u8], template: &[u8], from: usize, to: usize) -> usize
     requires { ⌜ (from ≤ to) × (to ≤ length (now template)) × (to ≤ length (now p)) ⌝ }
-    ensures { λ r. ⌜ r ≡ firstBad (literal (part (now (template .entry)) from (to - from))) (now (p .entry)) from ⌝ }
+    ensures { λ r. ⌜ r ≡ badPlace (literal (part (now (template .entry)) from (to - from))) (now (p .entry)) from ⌝ }
 {
     let mut i = literal_blocks(p, template, from, to);
     while i < to {
@@ -325,7 +327,7 @@ fn literal_span(p: &[u8], template: &[u8], from: usize, to: usize) -> usize
 // A spare line: so many blanks and byte 10.
 fn spare_check(p: &[u8], from: usize, blanks: usize) -> usize
     requires { ⌜ from + blanks < length (now p) ⌝ }
-    ensures { λ r. ⌜ r ≡ firstBad (lineClasses (spare blanks)) (now (p .entry)) from ⌝ }
+    ensures { λ r. ⌜ r ≡ badPlace (lineClasses (spare blanks)) (now (p .entry)) from ⌝ }
 {
     let end = from + blanks;
     let bad = text::first_not_blank(p, from, end);
@@ -341,7 +343,7 @@ fn spare_check(p: &[u8], from: usize, blanks: usize) -> usize
 // A sign and digits.
 fn whole_check(p: &[u8], from: usize, to: usize) -> usize
     requires { ⌜ (from < to) × (to ≤ length (now p)) ⌝ }
-    ensures { λ r. ⌜ r ≡ firstBad (valueClasses (s (to - (from + 1)))) (now (p .entry)) from ⌝ }
+    ensures { λ r. ⌜ r ≡ badPlace (valueClasses (s (to - (from + 1)))) (now (p .entry)) from ⌝ }
 {
     if !is_sign(p[from]) {
         return from;
@@ -352,7 +354,7 @@ fn whole_check(p: &[u8], from: usize, to: usize) -> usize
 // A sign, digits, a point and digits.
 fn decimal_check(p: &[u8], from: usize, point: usize, to: usize) -> usize
     requires { ⌜ (from < point) × (point < to) × (to ≤ length (now p)) ⌝ }
-    ensures { λ r. ⌜ r ≡ firstBad (valueClasses (sAB (point - (from + 1)) (to - (point + 1)))) (now (p .entry)) from ⌝ }
+    ensures { λ r. ⌜ r ≡ badPlace (valueClasses (sAB (point - (from + 1)) (to - (point + 1)))) (now (p .entry)) from ⌝ }
 {
     let bad = whole_check(p, from, point);
     if bad != point {
@@ -366,10 +368,13 @@ fn decimal_check(p: &[u8], from: usize, point: usize, to: usize) -> usize
 
 fn value_check(p: &[u8], from: usize, kind: u8, to: usize) -> usize
     requires { ⌜ (from ≤ to) × (to ≤ length (now p)) × T (widthFits kind (to - from)) ⌝ }
-    ensures { λ r. ⌜ r ≡ firstBad (valueLaid kind (to - from)) (now (p .entry)) from ⌝ }
+    ensures { λ r. ⌜ r ≡ badPlace (valueLaid kind (to - from)) (now (p .entry)) from ⌝ }
 {
     if kind == TEXT {
         return text::first_not_plain(p, from, to);
+    }
+    if kind == SPARE {
+        return text::first_not_blank(p, from, to);
     }
     if kind == FLAG {
         if is_flag(p[from]) {
@@ -392,31 +397,17 @@ fn value_check(p: &[u8], from: usize, kind: u8, to: usize) -> usize
     decimal_check(p, from, to - 7, to)
 }
 
-// Where the values so far end, behind one line more.
-fn line_end(line: Line, from: usize) -> usize
-    requires { ⌜ line .value + line .width < 66048 ⌝ }
-    ensures { λ r. ⌜ r ≡ behind from line ⌝ }
+// One row: the literal bytes from the last value on, and the value.
+fn row_check(p: &[u8], template: &[u8], from: usize, row: Row) -> usize
+    requires { ⌜ T (rowFits (length (now template)) from row) × (length (now template) ≤ length (now p)) ⌝ }
+    ensures { λ r. ⌜ r ≡ badPlace (rowLaid (now (template .entry)) from row) (now (p .entry)) from ⌝ }
 {
-    if line.kind == SPARE {
-        return from;
-    }
-    line.value + line.width
-}
-
-// One line: the literal bytes from the last value on, and the value. A spare is left to the next line's literal bytes.
-fn line_check(p: &[u8], template: &[u8], from: usize, line: Line) -> usize
-    requires { ⌜ T (lineFits (length (now template)) from line) × (length (now template) ≤ length (now p)) ⌝ }
-    ensures { λ r. ⌜ r ≡ firstBad (lineLaid (now (template .entry)) from line) (now (p .entry)) from ⌝ }
-{
-    if line.kind == SPARE {
-        return from;
-    }
-    let value = line.value;
+    let value = row.value;
     let bad = literal_span(p, template, from, value);
     if bad != value {
         return bad;
     }
-    value_check(p, value, line.kind, value + line.width)
+    value_check(p, value, row.kind, value + row.width)
 }
 
 fn wide8(x: u8) -> usize
@@ -431,18 +422,18 @@ fn wide16(x: u16) -> usize
     x as usize
 }
 
-fn line_at(starts: &[u16], keys: &[u8], kinds: &[u8], widths: &[u8], i: usize) -> Line
+fn row_at(starts: &[u16], keys: &[u8], kinds: &[u8], widths: &[u8], i: usize) -> Row
     requires { ⌜ (i < length (now starts)) × (i < length (now keys)) × (i < length (now kinds)) × (i < length (now widths)) ⌝ }
-    ensures { λ r. ⌜ (r ≡ lineOf (now (starts .entry)) (now (keys .entry)) (now (kinds .entry)) (now (widths .entry)) i) × (r .value + r .width < 66048) ⌝ }
+    ensures { λ r. ⌜ r ≡ rowOf (now (starts .entry)) (now (keys .entry)) (now (kinds .entry)) (now (widths .entry)) i ⌝ }
 {
-    Line {
+    Row {
         value: wide16(starts[i]) + wide8(keys[i]),
         kind: kinds[i],
         width: wide8(widths[i]),
     }
 }
 
-// The lines of a table, in the header `p`.
+// The lines of a table, in the header `p`: row by row, and the literal bytes behind the last value.
 fn lines_check(
     p: &[u8],
     template: &[u8],
@@ -452,27 +443,27 @@ fn lines_check(
     widths: &[u8],
 ) -> usize
     requires { ⌜ T (tableFits (now template) (now starts) (now keys) (now kinds) (now widths)) × (length (now template) ≤ length (now p)) ⌝ }
-    ensures { λ r. ⌜ r ≡ firstBad (tableLaid (now (template .entry)) (now (starts .entry)) (now (keys .entry)) (now (kinds .entry)) (now (widths .entry))) (now (p .entry)) 0 ⌝ }
+    ensures { λ r. ⌜ ((ls : List Line) → TableOf ls (now (template .entry)) (now (starts .entry)) (now (keys .entry)) (now (kinds .entry)) (now (widths .entry)) → r ≡ badPlace (layout ls) (now (p .entry)) 0) ⌝ }
 {
     let mut from = 0;
     let mut i = 0;
     while i < kinds.len() {
-        let line = line_at(starts, keys, kinds, widths, i);
-        let end = line_end(line, from);
-        let bad = line_check(p, template, from, line);
+        let row = row_at(starts, keys, kinds, widths, i);
+        let end = row.value + row.width;
+        let bad = row_check(p, template, from, row);
         if bad != end {
             return bad;
         }
         from = end;
         i += 1;
     }
-    from
+    literal_span(p, template, from, template.len())
 }
 
-// The first byte of the main header that is not as laid out, or 1,247.
+// The first byte of the main header that is not as laid out, or its end.
 pub fn main_header_check(p: &[u8]) -> usize
-    requires { ⌜ 1247 ≤ length (now p) ⌝ }
-    ensures { λ r. ⌜ laidOut 3 128 0 (layout mph) (now (p .entry)) ≡ need (eqb r 1247) 3 r 128 ⌝ }
+    requires { ⌜ mphSize ≤ length (now p) ⌝ }
+    ensures { λ r. ⌜ laidOut 3 128 0 (layout mph) (now (p .entry)) ≡ need (eqb r mphSize) 3 r 128 ⌝ }
 {
     lines_check(
         p,
@@ -484,15 +475,15 @@ pub fn main_header_check(p: &[u8]) -> usize
     )
 }
 
-// The same of the DSD that begins at `at`, or its end. A DSD whose first byte is a blank is a spare.
+// The same of the DSD that begins at `at`. A DSD whose first byte is a blank is a spare.
 pub fn dsd_check(p: &[u8], at: usize) -> usize
-    requires { ⌜ at + 280 ≤ length (now p) ⌝ }
-    ensures { λ r. ⌜ ((e : ℕ) → laidOut 8 e at (layout (linesOf (part (now (p .entry)) at 280))) (part (now (p .entry)) at 280) ≡ need (eqb r (at + 280)) 8 r e) ⌝ }
+    requires { ⌜ at + dsdSize ≤ length (now p) ⌝ }
+    ensures { λ r. ⌜ ((e : ℕ) → laidOut 8 e at (layout (linesOf (part (now (p .entry)) at dsdSize))) (part (now (p .entry)) at dsdSize) ≡ need (eqb r (at + dsdSize)) 8 r e) ⌝ }
 {
     if p[at] == b' ' {
-        return spare_check(p, at, 279);
+        return spare_check(p, at, Entry::SIZE - 1);
     }
-    let end = at + 280;
+    let end = at + Entry::SIZE;
     let bad = lines_check(
         &p[at..end],
         &DSD_TEMPLATE,

@@ -4,9 +4,9 @@ use mathlib.Core.Path.{refl}
 use native.Mathlib.Omega.{arith}
 use borrow.Author.Needs.{needs}
 use Rattle.layout.specs.Bytes.{part}
-use Rattle.layout.specs.Text.{layout, lineClasses, valueClasses}
+use Rattle.layout.specs.Text.{layout, lineClasses, valueClasses, valueWidth}
 use Rattle.layout.specs.Lines.{dsd, spareDsd}
-use Rattle.lines.specs.Table.{behind, tableLaid, linesLaid, lineLaid, valueLaid, lineOf, tableFits, linesFit, lineFits, widthFits}
+use Rattle.lines.specs.Table.{tableLaid, rowsLaid, rowLaid, valueLaid, rowOf, tableFits, rowsFit, rowFits, widthFits, startsOf, widthIn}
 use Rattle.lines.proofs.Headers.{dsd-answer, spare-lines, dsd-lines, dsd-long, dsd-inside, dsd-place}
 use Rattle.lines.proofs.dsd_check.Statement.{statement}
 use Rattle.lines.proofs.dsd_check.Tie as tie
@@ -14,13 +14,16 @@ use Rattle.lines.proofs.dsd_check.Tie as tie
 shared-slice-read-if1 : tie.Need-shared-slice-read-if1
 shared-slice-read-if1 c = search needs
 
+sub-spare-check : tie.Need-sub-spare-check
+sub-spare-check c = search needs
+
 spare-check-requires : tie.Need-spare-check-requires
 spare-check-requires c κs = search needs
 
 returns : tie.Need-returns
 unfolding layout spareDsd lineClasses
 returns c =
-    dsd-answer _ (c .before .before .before .before .args .at) spareDsd _ _ (spare-lines (c .before .before .before .before .args .p .now) (c .before .before .before .before .args .at) (c .before .if1 .taken)) refl refl (c .spare-check .ensures) (c .before .before .before .before .pre)
+    dsd-answer _ (c .before .before .before .before .args .at) spareDsd _ (spare-lines (c .before .before .before .before .args .p .now) (c .before .before .before .before .args .at) (c .before .if1 .taken)) refl (c .spare-check .ensures) (c .before .before .before .before .pre)
 
 add-end : tie.Need-add-end
 add-end c = search needs
@@ -50,23 +53,24 @@ slice-aggregate-lines-check-5 : tie.Need-slice-aggregate-lines-check-5
 slice-aggregate-lines-check-5 c = search needs
 
 lines-check-requires : tie.Need-lines-check-requires
-unfolding behind tableFits linesFit lineFits widthFits lineOf
+unfolding tableFits rowsFit rowFits widthFits rowOf
 lines-check-requires c κs = (tt, dsd-long _ _ (c .before .before .before .before .before .before .before .before .before .pre))
 
 add-result : tie.Need-add-result
-unfolding behind tableLaid linesLaid lineLaid valueLaid lineOf layout dsd lineClasses valueClasses part
-add-result c = omega (arith, dsd-inside (c .before .before .before .before .before .before .before .before .before .before .args .p .now) (c .before .before .before .before .before .before .before .before .before .before .args .at) _ _ refl (c .lines-check .ensures), c .before .before .before .before .before .before .before .before .before .before .pre)
+unfolding tableLaid rowsLaid rowLaid valueLaid rowOf layout dsd lineClasses valueClasses part startsOf widthIn valueWidth
+add-result c = omega (arith, dsd-inside (c .before .before .before .before .before .before .before .before .before .before .args .p .now) (c .before .before .before .before .before .before .before .before .before .before .args .at) _ _ refl (c .lines-check .ensures dsd (record { begin = refl; wide = refl; laid = refl })), c .before .before .before .before .before .before .before .before .before .before .pre)
 
 returns-2 : tie.Need-returns-2
-unfolding behind tableLaid linesLaid lineLaid valueLaid lineOf layout dsd lineClasses valueClasses part
+unfolding tableLaid rowsLaid rowLaid valueLaid rowOf layout dsd lineClasses valueClasses part startsOf widthIn valueWidth
 returns-2 c =
-    dsd-answer _ (c .before .before .before .before .before .before .before .before .before .before .args .at) dsd _ _ (dsd-lines (c .before .before .before .before .before .before .before .before .before .before .args .p .now) (c .before .before .before .before .before .before .before .before .before .before .args .at) (c .before .before .before .before .before .before .before .if1 .left)) refl refl (dsd-place (c .before .before .before .before .before .before .before .before .before .before .args .p .now) (c .before .before .before .before .before .before .before .before .before .before .args .at) _ _ refl (c .lines-check .ensures)) (c .before .before .before .before .before .before .before .before .before .before .pre)
+    dsd-answer _ (c .before .before .before .before .before .before .before .before .before .before .args .at) dsd _ (dsd-lines (c .before .before .before .before .before .before .before .before .before .before .args .p .now) (c .before .before .before .before .before .before .before .before .before .before .args .at) (c .before .before .before .before .before .before .before .if1 .left)) refl (dsd-place (c .before .before .before .before .before .before .before .before .before .before .args .p .now) (c .before .before .before .before .before .before .before .before .before .before .args .at) _ _ refl (c .lines-check .ensures dsd (record { begin = refl; wide = refl; laid = refl }))) (c .before .before .before .before .before .before .before .before .before .before .pre)
 
 pub dsd-check-spec : {M : Type 1} → statement M
 dsd-check-spec =
     tie.close
     (tie.spec
     shared-slice-read-if1
+    sub-spare-check
     spare-check-requires
     returns
     add-end

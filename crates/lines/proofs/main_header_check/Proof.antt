@@ -3,9 +3,9 @@
 use mathlib.Core.Path.{refl}
 use borrow.Author.Needs.{needs}
 use Rattle.layout.specs.Bytes.{part}
-use Rattle.layout.specs.Text.{layout, lineClasses, valueClasses}
+use Rattle.layout.specs.Text.{layout, lineClasses, valueClasses, valueWidth}
 use Rattle.layout.specs.Lines.{mph}
-use Rattle.lines.specs.Table.{behind, tableLaid, linesLaid, lineLaid, valueLaid, lineOf, tableFits, linesFit, lineFits, widthFits}
+use Rattle.lines.specs.Table.{mphSize, tableLaid, rowsLaid, rowLaid, valueLaid, rowOf, tableFits, rowsFit, rowFits, widthFits, startsOf, widthIn}
 use Rattle.lines.proofs.Headers.{header-answer}
 use Rattle.lines.proofs.main_header_check.Statement.{statement}
 use Rattle.lines.proofs.main_header_check.Tie as tie
@@ -26,12 +26,12 @@ slice-aggregate-lines-check-5 : tie.Need-slice-aggregate-lines-check-5
 slice-aggregate-lines-check-5 c = search needs
 
 lines-check-requires : tie.Need-lines-check-requires
-unfolding behind tableFits linesFit lineFits widthFits lineOf
+unfolding tableFits rowsFit rowFits widthFits rowOf
 lines-check-requires c κs = (tt, c .before .before .before .before .before .before .pre)
 
 returns : tie.Need-returns
-unfolding behind tableLaid linesLaid lineLaid valueLaid lineOf layout mph lineClasses valueClasses part
-returns c = header-answer 3 128 _ (layout mph) _ 0 _ 1247 refl (c .lines-check .ensures) refl (c .before .before .before .before .before .before .before .pre)
+unfolding tableLaid rowsLaid rowLaid valueLaid rowOf layout mph lineClasses valueClasses part startsOf widthIn valueWidth
+returns c = header-answer 3 128 (layout mph) _ 0 _ mphSize (c .lines-check .ensures mph (record { begin = refl; wide = refl; laid = refl })) refl (c .before .before .before .before .before .before .before .pre)
 
 pub main-header-check-spec : {M : Type 1} → statement M
 main-header-check-spec =

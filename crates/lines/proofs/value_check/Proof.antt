@@ -5,8 +5,8 @@ use mathlib.Core.Path.{sym, _∙_}
 use native.Mathlib.Omega.{arith}
 use borrow.Author.Needs.{needs}
 use Rattle.layout.specs.Text.{plain}
-use Rattle.lines.proofs.Spans.{run-bad}
-use Rattle.lines.proofs.Values.{text-laid, flag-laid, type-laid, whole-laid, thousandths-laid, millionths-laid, flag-width, type-width, whole-width, thousandths-width, millionths-width, one-good, one-bad, whole-by-end, decimal-by-end}
+use Rattle.lines.proofs.Spans.{run-bad, blanks-bad}
+use Rattle.lines.proofs.Values.{text-laid, blanks-laid, flag-laid, type-laid, whole-laid, thousandths-laid, millionths-laid, flag-width, type-width, whole-width, thousandths-width, millionths-width, one-good, one-bad, whole-by-end, decimal-by-end}
 use Rattle.lines.proofs.value_check.Statement.{statement}
 use Rattle.lines.proofs.value_check.Tie as tie
 
@@ -16,53 +16,59 @@ first-not-plain-requires c κs = search needs
 returns : tie.Need-returns
 returns c = rw (text-laid (c .before .before .before .args .kind) (c .before .before .before .args .to - c .before .before .before .args .from) (c .before .if1 .taken)) (c .first-not-plain .ensures ∙ run-bad plain _ _ _)
 
+first-not-blank-requires : tie.Need-first-not-blank-requires
+first-not-blank-requires c κs = search needs
+
+returns-2 : tie.Need-returns-2
+returns-2 c = rw (blanks-laid (c .before .before .before .before .args .kind) (c .before .before .before .before .args .to - c .before .before .before .before .args .from) (c .before .if2 .taken)) (c .first-not-blank .ensures ∙ blanks-bad _ _ _)
+
 shared-slice-read-is-flag : tie.Need-shared-slice-read-is-flag
-shared-slice-read-is-flag c = omega (arith, c .before .before .before .before .pre .1, flag-width (c .before .before .before .before .args .kind) (c .before .before .before .before .args .to - c .before .before .before .before .args .from) (c .before .if2 .taken) (c .before .before .before .before .pre .2))
+shared-slice-read-is-flag c = omega (arith, c .before .before .before .before .before .pre .1, flag-width (c .before .before .before .before .before .args .kind) (c .before .before .before .before .before .args .to - c .before .before .before .before .before .args .from) (c .before .if3 .taken) (c .before .before .before .before .before .pre .2))
 
 is-flag-requires : tie.Need-is-flag-requires
 is-flag-requires c κs = search needs
 
-returns-2 : tie.Need-returns-2
-returns-2 c = one-good _ _ _ 0 _ _ (flag-laid (c .before .before .before .before .before .before .args .kind) (c .before .before .before .before .before .before .args .to - c .before .before .before .before .before .before .args .from) (c .before .before .before .if2 .taken)) (c .before .before .before .before .before .before .pre .0) (flag-width (c .before .before .before .before .before .before .args .kind) (c .before .before .before .before .before .before .args .to - c .before .before .before .before .before .before .args .from) (c .before .before .before .if2 .taken) (c .before .before .before .before .before .before .pre .2)) (sym (c .before .is-flag .ensures) ∙ c .if3 .taken)
-
 returns-3 : tie.Need-returns-3
-returns-3 c = one-bad _ _ 0 0 _ _ (flag-laid (c .before .before .before .before .before .before .args .kind) (c .before .before .before .before .before .before .args .to - c .before .before .before .before .before .before .args .from) (c .before .before .before .if2 .taken)) (sym (c .before .is-flag .ensures) ∙ c .if3 .left)
+returns-3 c = one-good _ _ _ 0 _ _ (flag-laid (c .before .before .before .before .before .before .before .args .kind) (c .before .before .before .before .before .before .before .args .to - c .before .before .before .before .before .before .before .args .from) (c .before .before .before .if3 .taken)) (c .before .before .before .before .before .before .before .pre .0) (flag-width (c .before .before .before .before .before .before .before .args .kind) (c .before .before .before .before .before .before .before .args .to - c .before .before .before .before .before .before .before .args .from) (c .before .before .before .if3 .taken) (c .before .before .before .before .before .before .before .pre .2)) (sym (c .before .is-flag .ensures) ∙ c .if4 .taken)
+
+returns-4 : tie.Need-returns-4
+returns-4 c = one-bad _ _ 0 0 _ _ (flag-laid (c .before .before .before .before .before .before .before .args .kind) (c .before .before .before .before .before .before .before .args .to - c .before .before .before .before .before .before .before .args .from) (c .before .before .before .if3 .taken)) (sym (c .before .is-flag .ensures) ∙ c .if4 .left)
 
 shared-slice-read-is-type : tie.Need-shared-slice-read-is-type
-shared-slice-read-is-type c = omega (arith, c .before .before .before .before .before .pre .1, type-width (c .before .before .before .before .before .args .kind) (c .before .before .before .before .before .args .to - c .before .before .before .before .before .args .from) (c .before .if4 .taken) (c .before .before .before .before .before .pre .2))
+shared-slice-read-is-type c = omega (arith, c .before .before .before .before .before .before .pre .1, type-width (c .before .before .before .before .before .before .args .kind) (c .before .before .before .before .before .before .args .to - c .before .before .before .before .before .before .args .from) (c .before .if5 .taken) (c .before .before .before .before .before .before .pre .2))
 
 is-type-requires : tie.Need-is-type-requires
 is-type-requires c κs = search needs
 
-returns-4 : tie.Need-returns-4
-returns-4 c = one-good _ _ _ 0 _ _ (type-laid (c .before .before .before .before .before .before .before .args .kind) (c .before .before .before .before .before .before .before .args .to - c .before .before .before .before .before .before .before .args .from) (c .before .before .before .if4 .taken)) (c .before .before .before .before .before .before .before .pre .0) (type-width (c .before .before .before .before .before .before .before .args .kind) (c .before .before .before .before .before .before .before .args .to - c .before .before .before .before .before .before .before .args .from) (c .before .before .before .if4 .taken) (c .before .before .before .before .before .before .before .pre .2)) (sym (c .before .is-type .ensures) ∙ c .if5 .taken)
-
 returns-5 : tie.Need-returns-5
-returns-5 c = one-bad _ _ 0 0 _ _ (type-laid (c .before .before .before .before .before .before .before .args .kind) (c .before .before .before .before .before .before .before .args .to - c .before .before .before .before .before .before .before .args .from) (c .before .before .before .if4 .taken)) (sym (c .before .is-type .ensures) ∙ c .if5 .left)
-
-whole-check-requires : tie.Need-whole-check-requires
-whole-check-requires c κs = (omega (arith, whole-width (c .before .before .before .before .before .args .kind) (c .before .before .before .before .before .args .to - c .before .before .before .before .before .args .from) (c .if6 .taken) (c .before .before .before .before .before .pre .2)), c .before .before .before .before .before .pre .1)
+returns-5 c = one-good _ _ _ 0 _ _ (type-laid (c .before .before .before .before .before .before .before .before .args .kind) (c .before .before .before .before .before .before .before .before .args .to - c .before .before .before .before .before .before .before .before .args .from) (c .before .before .before .if5 .taken)) (c .before .before .before .before .before .before .before .before .pre .0) (type-width (c .before .before .before .before .before .before .before .before .args .kind) (c .before .before .before .before .before .before .before .before .args .to - c .before .before .before .before .before .before .before .before .args .from) (c .before .before .before .if5 .taken) (c .before .before .before .before .before .before .before .before .pre .2)) (sym (c .before .is-type .ensures) ∙ c .if6 .taken)
 
 returns-6 : tie.Need-returns-6
-returns-6 c = whole-by-end _ _ _ _ _ (whole-laid (c .before .before .before .before .before .before .args .kind) (c .before .before .before .before .before .before .args .to - c .before .before .before .before .before .before .args .from) (c .before .if6 .taken)) (c .whole-check .ensures)
+returns-6 c = one-bad _ _ 0 0 _ _ (type-laid (c .before .before .before .before .before .before .before .before .args .kind) (c .before .before .before .before .before .before .before .before .args .to - c .before .before .before .before .before .before .before .before .args .from) (c .before .before .before .if5 .taken)) (sym (c .before .is-type .ensures) ∙ c .if6 .left)
 
-sub-decimal-check : tie.Need-sub-decimal-check
-sub-decimal-check c = omega (arith, thousandths-width (c .before .before .before .before .before .before .args .kind) (c .before .before .before .before .before .before .args .to - c .before .before .before .before .before .before .args .from) (c .if7 .taken) (c .before .before .before .before .before .before .pre .2))
-
-decimal-check-requires : tie.Need-decimal-check-requires
-decimal-check-requires c κs = let w = thousandths-width (c .before .before .before .before .before .before .args .kind) (c .before .before .before .before .before .before .args .to - c .before .before .before .before .before .before .args .from) (c .if7 .taken) (c .before .before .before .before .before .before .pre .2) in (omega arith, omega arith, c .before .before .before .before .before .before .pre .1)
+whole-check-requires : tie.Need-whole-check-requires
+whole-check-requires c κs = (omega (arith, whole-width (c .before .before .before .before .before .before .args .kind) (c .before .before .before .before .before .before .args .to - c .before .before .before .before .before .before .args .from) (c .if7 .taken) (c .before .before .before .before .before .before .pre .2)), c .before .before .before .before .before .before .pre .1)
 
 returns-7 : tie.Need-returns-7
-returns-7 c = decimal-by-end _ _ _ _ _ 3 (thousandths-laid (c .before .before .before .before .before .before .before .args .kind) (c .before .before .before .before .before .before .before .args .to - c .before .before .before .before .before .before .before .args .from) (c .before .if7 .taken)) (omega (arith, thousandths-width (c .before .before .before .before .before .before .before .args .kind) (c .before .before .before .before .before .before .before .args .to - c .before .before .before .before .before .before .before .args .from) (c .before .if7 .taken) (c .before .before .before .before .before .before .before .pre .2))) (c .decimal-check .ensures)
+returns-7 c = whole-by-end _ _ _ _ _ (whole-laid (c .before .before .before .before .before .before .before .args .kind) (c .before .before .before .before .before .before .before .args .to - c .before .before .before .before .before .before .before .args .from) (c .before .if7 .taken)) (c .whole-check .ensures)
 
-sub-decimal-check-2 : tie.Need-sub-decimal-check-2
-sub-decimal-check-2 c = omega (arith, millionths-width (c .before .before .before .before .before .before .args .kind) (c .before .before .before .before .before .before .args .to - c .before .before .before .before .before .before .args .from) (c .before .before .before .before .if1 .left) (c .before .before .before .if2 .left) (c .before .before .if4 .left) (c .before .if6 .left) (c .if7 .left) (c .before .before .before .before .before .before .pre .2))
+sub-decimal-check : tie.Need-sub-decimal-check
+sub-decimal-check c = omega (arith, thousandths-width (c .before .before .before .before .before .before .before .args .kind) (c .before .before .before .before .before .before .before .args .to - c .before .before .before .before .before .before .before .args .from) (c .if8 .taken) (c .before .before .before .before .before .before .before .pre .2))
 
-decimal-check-requires-2 : tie.Need-decimal-check-requires-2
-decimal-check-requires-2 c κs = let w = millionths-width (c .before .before .before .before .before .before .args .kind) (c .before .before .before .before .before .before .args .to - c .before .before .before .before .before .before .args .from) (c .before .before .before .before .if1 .left) (c .before .before .before .if2 .left) (c .before .before .if4 .left) (c .before .if6 .left) (c .if7 .left) (c .before .before .before .before .before .before .pre .2) in (omega arith, omega arith, c .before .before .before .before .before .before .pre .1)
+decimal-check-requires : tie.Need-decimal-check-requires
+decimal-check-requires c κs = let w = thousandths-width (c .before .before .before .before .before .before .before .args .kind) (c .before .before .before .before .before .before .before .args .to - c .before .before .before .before .before .before .before .args .from) (c .if8 .taken) (c .before .before .before .before .before .before .before .pre .2) in (omega arith, omega arith, c .before .before .before .before .before .before .before .pre .1)
 
 returns-8 : tie.Need-returns-8
-returns-8 c = decimal-by-end _ _ _ _ _ 6 (millionths-laid (c .before .before .before .before .before .before .before .args .kind) (c .before .before .before .before .before .before .before .args .to - c .before .before .before .before .before .before .before .args .from) (c .before .before .before .before .before .if1 .left) (c .before .before .before .before .if2 .left) (c .before .before .before .if4 .left) (c .before .before .if6 .left) (c .before .if7 .left)) (omega (arith, millionths-width (c .before .before .before .before .before .before .before .args .kind) (c .before .before .before .before .before .before .before .args .to - c .before .before .before .before .before .before .before .args .from) (c .before .before .before .before .before .if1 .left) (c .before .before .before .before .if2 .left) (c .before .before .before .if4 .left) (c .before .before .if6 .left) (c .before .if7 .left) (c .before .before .before .before .before .before .before .pre .2))) (c .decimal-check2 .ensures)
+returns-8 c = decimal-by-end _ _ _ _ _ 3 (thousandths-laid (c .before .before .before .before .before .before .before .before .args .kind) (c .before .before .before .before .before .before .before .before .args .to - c .before .before .before .before .before .before .before .before .args .from) (c .before .if8 .taken)) (omega (arith, thousandths-width (c .before .before .before .before .before .before .before .before .args .kind) (c .before .before .before .before .before .before .before .before .args .to - c .before .before .before .before .before .before .before .before .args .from) (c .before .if8 .taken) (c .before .before .before .before .before .before .before .before .pre .2))) (c .decimal-check .ensures)
+
+sub-decimal-check-2 : tie.Need-sub-decimal-check-2
+sub-decimal-check-2 c = omega (arith, millionths-width (c .before .before .before .before .before .before .before .args .kind) (c .before .before .before .before .before .before .before .args .to - c .before .before .before .before .before .before .before .args .from) (c .before .before .before .before .before .if1 .left) (c .before .before .before .before .if2 .left) (c .before .before .before .if3 .left) (c .before .before .if5 .left) (c .before .if7 .left) (c .if8 .left) (c .before .before .before .before .before .before .before .pre .2))
+
+decimal-check-requires-2 : tie.Need-decimal-check-requires-2
+decimal-check-requires-2 c κs = let w = millionths-width (c .before .before .before .before .before .before .before .args .kind) (c .before .before .before .before .before .before .before .args .to - c .before .before .before .before .before .before .before .args .from) (c .before .before .before .before .before .if1 .left) (c .before .before .before .before .if2 .left) (c .before .before .before .if3 .left) (c .before .before .if5 .left) (c .before .if7 .left) (c .if8 .left) (c .before .before .before .before .before .before .before .pre .2) in (omega arith, omega arith, c .before .before .before .before .before .before .before .pre .1)
+
+returns-9 : tie.Need-returns-9
+returns-9 c = decimal-by-end _ _ _ _ _ 6 (millionths-laid (c .before .before .before .before .before .before .before .before .args .kind) (c .before .before .before .before .before .before .before .before .args .to - c .before .before .before .before .before .before .before .before .args .from) (c .before .before .before .before .before .before .if1 .left) (c .before .before .before .before .before .if2 .left) (c .before .before .before .before .if3 .left) (c .before .before .before .if5 .left) (c .before .before .if7 .left) (c .before .if8 .left)) (omega (arith, millionths-width (c .before .before .before .before .before .before .before .before .args .kind) (c .before .before .before .before .before .before .before .before .args .to - c .before .before .before .before .before .before .before .before .args .from) (c .before .before .before .before .before .before .if1 .left) (c .before .before .before .before .before .if2 .left) (c .before .before .before .before .if3 .left) (c .before .before .before .if5 .left) (c .before .before .if7 .left) (c .before .if8 .left) (c .before .before .before .before .before .before .before .before .pre .2))) (c .decimal-check2 .ensures)
 
 pub value-check-spec : {M : Type 1} → statement M
 value-check-spec =
@@ -70,19 +76,21 @@ value-check-spec =
     (tie.spec
     first-not-plain-requires
     returns
+    first-not-blank-requires
+    returns-2
     shared-slice-read-is-flag
     is-flag-requires
-    returns-2
     returns-3
+    returns-4
     shared-slice-read-is-type
     is-type-requires
-    returns-4
     returns-5
-    whole-check-requires
     returns-6
+    whole-check-requires
+    returns-7
     sub-decimal-check
     decimal-check-requires
-    returns-7
+    returns-8
     sub-decimal-check-2
     decimal-check-requires-2
-    returns-8)
+    returns-9)

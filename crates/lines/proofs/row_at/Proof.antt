@@ -1,12 +1,11 @@
--- `lines::line_at` meets its contract: each field is its column's element.
+-- `lines::row_at` meets its contract: each field is its column's element.
 -- Assumes nothing.
 use Prim.Native.Nat.{_+_}
-use native.Mathlib.Omega.{arith}
 use borrow.Author.Needs.{needs}
 use lib.ListN.{getD}
-use Rattle.lines.specs.Table.{lineOf}
-use Rattle.lines.proofs.line_at.Statement.{statement}
-use Rattle.lines.proofs.line_at.Tie as tie
+use Rattle.lines.specs.Table.{rowOf}
+use Rattle.lines.proofs.row_at.Statement.{statement}
+use Rattle.lines.proofs.row_at.Tie as tie
 
 mul-wide16 : tie.Need-mul-wide16
 mul-wide16 c = search needs
@@ -36,18 +35,16 @@ wide8-requires-2 : tie.Need-wide8-requires-2
 wide8-requires-2 c κs = search needs
 
 returns : tie.Need-returns
-unfolding lineOf
-returns c = (
-  λ j. record {
-    value = c .before .before .before .before .before .wide16 .ensures .0 j + c .before .before .before .wide8 .ensures .0 j;
-    kind = getD (c .before .before .before .before .before .before .before .before .before .before .before .args .kinds .now) (c .before .before .before .before .before .before .before .before .before .before .before .args .i) 0;
-    width = c .wide82 .ensures .0 j;
-  },
-  omega (arith, c .before .before .before .before .before .wide16 .ensures .1, c .before .before .before .wide8 .ensures .1, c .wide82 .ensures .1),
-)
+unfolding rowOf
+returns c =
+    λ j. record {
+      value = c .before .before .before .before .before .wide16 .ensures .0 j + c .before .before .before .wide8 .ensures .0 j;
+      kind = getD (c .before .before .before .before .before .before .before .before .before .before .before .args .kinds .now) (c .before .before .before .before .before .before .before .before .before .before .before .args .i) 0;
+      width = c .wide82 .ensures .0 j;
+    }
 
-pub line-at-spec : {M : Type 1} → statement M
-line-at-spec =
+pub row-at-spec : {M : Type 1} → statement M
+row-at-spec =
     tie.close
     (tie.spec
     mul-wide16
