@@ -4,7 +4,7 @@ use Prim.Native.Nat.{ℕ, _+_, _*_, _-_, _≤_, _<_}
 use mathlib.Core.List.{List, []}
 use mathlib.Core.Path.{_≡_, refl, sym, ap, _∙_}
 use native.Mathlib.Omega.{arith}
-use lib.Dec.{ltb, ltb→lt}
+use lib.Dec.{ltb→lt}
 use lib.ListN.{length}
 use Rattle.layout.specs.Bytes.{part}
 use Rattle.layout.specs.Answer.{accepted, refused, Reply, refusal, is, _else_, _before_}

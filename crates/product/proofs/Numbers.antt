@@ -36,19 +36,21 @@ module _ (b : List ℕ) where
   pub verdict-number : Numbered 16 (verdict b)
   verdict-number n p e h = fault-number n p e (refused-exactly b n p e .0 h .1 .0)
 
+  -- and so are its SPH lines
   pub sph-number : NumberedReply 16 (sphPlace b)
   unfolding sphPlace
   sph-number = else-numbered 16 (verdict b) _ verdict-number
 
   module _ (i j : ℕ) where
-    -- and its records by 17 and 18 too
-    record-refusal-number : Numbered 18 (recordRefusal b i j)
+    -- a record is refused by 17 and 18 too
+    pub record-refusal-number : Numbered 18 (recordRefusal b i j)
     unfolding recordRefusal
     record-refusal-number =
         orElse-numbered 16 18 (verdict b) _ (omega arith) verdict-number
         (orElse-numbered 18 18 _ _ (omega arith) (need-numbered 18 (ltb i (length (directory b))) 17 0 none (omega arith) (omega arith))
         (need-numbered 18 (ltb j (length (lengths (statesOf b (directory b)) (at (directory b) i)))) 18 0 i (omega arith) (omega arith)))
 
+    -- and so is its place
     pub record-number : NumberedReply 18 (recordPlace b i j)
     unfolding recordPlace
     record-number = else-numbered 18 (recordRefusal b i j) _ record-refusal-number
@@ -59,7 +61,7 @@ unfolding endsIn
 ends-number most l r i off w = need-numbered most (leb (off + w) (length r)) 20 off i (omega arith) l
 
 module _ (b : List ℕ) (i j : ℕ) where
-  -- fields by 19 and 20 too
+  -- a field is refused by 19 and 20 too
   pub field-number : (off kind : ℕ) → NumberedReply 20 (fieldReply b i j off kind)
   unfolding fieldReply fieldIn fieldRefusal
   field-number off kind =
@@ -69,7 +71,7 @@ module _ (b : List ℕ) (i j : ℕ) where
       (orElse-numbered 20 20 _ _ (omega arith) (need-numbered 20 (within 1 9 kind) 19 0 i (omega arith) (omega arith))
       (ends-number 20 (omega arith) r i off (bytesOf (shapeOf kind)))))
 
-  -- points by 20 and 21 too
+  -- a point is refused by 20 and 21 too
   pub point-number : (lat lon alt : ℕ) → NumberedReply 21 (pointReply b i j lat lon alt)
   unfolding pointReply pointIn pointRefusal
   point-number lat lon alt =

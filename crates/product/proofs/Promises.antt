@@ -12,7 +12,7 @@ use lib.ListN.{length, drop, replicate, length-drop, length-replicate}
 use lib.Seq.{length-take-le}
 use borrow.Author.Tests.{lt-ltb}
 use Rattle.layout.specs.Bytes.{part}
-use Rattle.layout.specs.Answer.{accepted, refused, Reply, refusal, is}
+use Rattle.layout.specs.Answer.{accepted, Reply, refusal, is}
 use Rattle.layout.specs.Search.{upto, join, firstRule}
 use Rattle.layout.specs.Entries.{Entry, headersEnd, directory, at, nonEmpty, kindOf, isVariable}
 use Rattle.layout.specs.States.{statesOf}
