@@ -39,7 +39,7 @@ pub record PointClose (r : List ℕ) (lat lon alt : ℕ) (x : Position) : Type 0
   pub altitude : Close (x .altitude) (pos (unsignedAt r alt 4)) 100 59 31
 
 module _ (r : List ℕ) (bytes : (k : ℕ) → getD r k 0 < 256) (i lat lon alt : ℕ) where
-  -- the point that a position is: nothing of it is refused, so refusal 21 holds the angles and the width holds the altitude
+  -- refusal 21 bounds the angles, four bytes bound the altitude
   at-position : T (inLimits 90000000 (signedAt r lat 4)) → T (inLimits 180000000 (signedAt r lon 4)) → PointClose r lat lon alt (positionAt r lat lon alt)
   unfolding positionAt
   at-position north east =
@@ -49,6 +49,7 @@ module _ (r : List ℕ) (bytes : (k : ℕ) → getD r k 0 < 256) (i lat lon alt 
         altitude = metres-close (unsignedAt r alt 4) (unsigned-below r bytes alt 4);
       }
 
+  -- the point that a record answers is that close
   pub point-in-close : (x : Position) → pointIn r i lat lon alt ≡ is x → PointClose r lat lon alt x
   unfolding pointIn pointRefusal endsIn
   point-in-close x h =
