@@ -1,6 +1,6 @@
 -- Cases A to L of document 01: one table, one statement, by computation. And in the same way states, unequal records, spares and SPH lines.
 -- Assumes nothing.
-use Prim.Native.Nat.{ℕ, _+_, _-_}
+use Prim.Native.Nat.{ℕ, _-_}
 use mathlib.Core.Bool.{false}
 use mathlib.Core.List.{List, [], _∷_, _++_, map}
 use mathlib.Core.Path.{_≡_, refl}

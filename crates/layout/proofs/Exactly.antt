@@ -1,9 +1,9 @@
 -- Demand 3, "exactly when", and demand 1's number, place and entry: the verdict accepts exactly where rules 1 to 16 have no fault, and refuses
 -- with number, place and entry exactly where that is the lowest fault of the first rule that has one.
 -- Assumes nothing.
-use Prim.Native.Nat.{ℕ, zero, suc, _-_, _≤_, _<_}
+use Prim.Native.Nat.{ℕ, zero, suc, _≤_, _<_}
 use mathlib.Core.Logic.{_↔_, _⊎_, inl, inr}
-use mathlib.Core.List.{List, [], _∷_}
+use mathlib.Core.List.{List, []}
 use mathlib.Core.Path.{_≡_, refl, sym, subst}
 use native.Mathlib.Omega.{arith}
 use native.Mathlib.Nat.{le-of-suc-le-suc}

@@ -11,12 +11,12 @@ use lib.Dec.{T, leb, eqb, leb·suc-suc, leb·suc-zero}
 use lib.IntN.{pos}
 use lib.ListN.{length, take, drop, getD, replicate, length-append, length-replicate}
 use lib.Seq.{length-take-le, split-at, drop-cons, drop-append-seam, take-append-seam}
-use Rattle.layout.specs.Bytes.{bytes, byteAt, part}
+use Rattle.layout.specs.Bytes.{byteAt, part}
 use Rattle.layout.specs.Text.{layout, whole, lineClasses, valueClasses, valueWidth, quoteWidth, placeOf, widthOf, valueOf}
 use Rattle.layout.specs.Lines.{mph, dsd, spareDsd}
 use Rattle.layout.specs.Answer.{Answer, need, none, _⇒_, _orElse_}
 use Rattle.layout.specs.Search.{first, some, count, find, upto, sum, join}
-use Rattle.layout.specs.Entries.{Entry, largestSigned, eqZ, totSize, sphSize, numDsd, dsdSize, numDataSets, headersEnd, entries, dsdAt, dsdBytes, entryOf, entryAt, directory, at, isData, called, nonEmpty, start, extent, kindOf, isVariable, numbersFit}
+use Rattle.layout.specs.Entries.{Entry, largestSigned, eqZ, totSize, dsdSize, numDataSets, entries, dsdAt, dsdBytes, entryOf, entryAt, directory, at, isData, nonEmpty, start, extent, kindOf, isVariable, numbersFit}
 use Rattle.layout.specs.Sph.{sphLines, line, lineBegins}
 use Rattle.layout.specs.States.{State, stateFits, stateCount, stateLengths, stateBytes, countOfKind, totalOfKind, isStatesAt, statesEntry, stateAt, statesAt, statesOf, stateIn, firstBad, tallyOf, ofKind}
 use Rattle.layout.specs.Records.{variableLengths}

@@ -1,7 +1,7 @@
 -- What it is that an answer judges a rule: it accepts exactly where there is no fault, and else gives the rule's number and the lowest fault,
 -- by entry and then by place. Each way of building a rule has its law.
 -- Assumes nothing.
-use Prim.Native.Nat.{ℕ, zero, suc, _+_, _-_, _≤_, _<_}
+use Prim.Native.Nat.{ℕ, zero, suc, _+_, _≤_, _<_}
 use mathlib.Core.Bool.{Bool, true, false}
 use mathlib.Core.Logic.{_↔_, _⊎_, inl, inr, ⊎-elim}
 use mathlib.Core.List.{List, [], _∷_}
@@ -10,7 +10,7 @@ use native.Mathlib.Omega.{arith}
 use native.Mathlib.Nat.{add-zero, le-of-suc-le-suc, not-suc-le-zero}
 use lib.Dec.{T}
 use lib.ListN.{length, getD}
-use Rattle.layout.specs.Text.{Class, plain, fits}
+use Rattle.layout.specs.Text.{Class, fits}
 use Rattle.layout.specs.Answer.{Answer, accepted, refused, need, where′, _orElse_}
 use Rattle.layout.specs.Search.{first, laidOut}
 use Rattle.layout.specs.Faults.{At, Upto, Lowest, Fits, LaidOut, Never}

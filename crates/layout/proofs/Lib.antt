@@ -1,5 +1,6 @@
 pub mod Starts
 pub mod Laws
+pub mod Replies
 pub mod Types
 pub mod Widths
 pub mod Tests

@@ -1,14 +1,14 @@
 -- What an accepted product's directory has, for the theorems above it: numbers that fit, sets that lie inside, apart, and cover all that follows
 -- the headers, and variable sets that their states fill.
 -- Assumes nothing.
-use Prim.Native.Nat.{ℕ, zero, suc, _+_, _*_, _-_, _^_, _≤_, _<_}
+use Prim.Native.Nat.{ℕ, zero, suc, _+_, _*_, _^_, _≤_, _<_}
 use mathlib.Core.Bool.{Bool, true, false, cond, _||_}
 use mathlib.Core.Logic.{inl, inr}
 use mathlib.Core.List.{List, [], map}
 use mathlib.Core.Path.{_≡_, refl, sym, ap, _∙_, subst}
 use native.Mathlib.Omega.{arith}
 use native.Mathlib.Nat.{zero-add, le-of-suc-le-suc, not-suc-le-zero}
-use lib.Dec.{T, leb, ltb, eqb, eqb→eq, leb→le, lt→ltb}
+use lib.Dec.{T, eqb, eqb→eq, leb→le, lt→ltb}
 use lib.IntN.{ℤ, pos, negsuc, negℤ, pos-ne-negsuc}
 use lib.Signed.{ltZ, leZ, _≤ℤ_}
 use lib.ListN.{length, getD, replicate, length-map}
@@ -199,7 +199,8 @@ module _ (b : List ℕ) (h : headerRules b (length b) ≡ accepted) where
 
 -- all rules hold
 module _ (b : List ℕ) (h : verdict b ≡ accepted) where
-  both-accept : (headerRules b (length b) ≡ accepted) × (stateRules (directory b) (tallyOf (statesOf b (directory b))) ≡ accepted)
+  -- rules 1 to 14, and rules 15 and 16
+  pub both-accept : (headerRules b (length b) ≡ accepted) × (stateRules (directory b) (tallyOf (statesOf b (directory b))) ≡ accepted)
   unfolding verdict verdictFrom
   both-accept = orElse-accepts (headerRules b (length b)) (stateRules (directory b) (tallyOf (statesOf b (directory b)))) .0 h
 

@@ -1,23 +1,22 @@
 -- An SPH line as it is tested byte by byte, against what document 01 says it is: parts put one behind the other (specs/Faults, SphLine).
 -- Assumes nothing.
-use Prim.Native.Nat.{ℕ, zero, suc, _+_, _-_, _≤_, _<_}
+use Prim.Native.Nat.{ℕ, zero, suc, _≤_}
 use mathlib.Core.Bool.{Bool, true, false, cond, _&&_, _||_}
-use mathlib.Core.Logic.{_↔_, _⊎_, inl, inr, ⊎-elim, Iff·rfl, Iff·trans}
+use mathlib.Core.Logic.{_↔_, _⊎_, inl, inr, Iff·rfl, Iff·trans}
 use mathlib.Core.List.{List, [], _∷_, _++_, append-assoc}
 use mathlib.Core.Path.{_≡_, refl, sym, ap, _∙_, subst}
 use native.Mathlib.Omega.{arith}
-use native.Mathlib.Nat.{le-of-suc-le-suc, not-suc-le-zero}
 use lib.Dec.{T, eqb, leb}
-use lib.ListN.{length, take, drop, getD, replicate}
+use lib.ListN.{length, take, getD, replicate}
 use lib.Seq.{take-suc}
 use borrow.Author.Tests.{eq-eqb, ne-eqb}
 use Rattle.layout.specs.Bytes.{byteAt, within}
 use Rattle.layout.specs.Text.{plain, fits}
 use Rattle.layout.specs.Search.{All}
 use Rattle.layout.specs.Sph.{ended, blanks, unquoted, quoted, value, keyword, line, lineBegins}
-use Rattle.layout.specs.Faults.{PlainByte, Letter, KeywordByte, Keyword, Quoted, Unquoted, SphLine, LineBegins}
+use Rattle.layout.specs.Faults.{PlainByte, Letter, KeywordByte, Quoted, Unquoted, SphLine, LineBegins}
 use Rattle.layout.proofs.Laws.{either-iff, and-T, or-T, leb-T, eqb-T}
-use Rattle.layout.proofs.Tests.{is-false, fits-T}
+use Rattle.layout.proofs.Tests.{fits-T}
 
 nil≢append : (xs : List ℕ) (y : ℕ) (ys : List ℕ) → [] ≡ xs ++ y ∷ ys → ⊥
 nil≢append [] y ys e = let z : _≡_ {A = ℕ} 0 1 = cc in omega arith

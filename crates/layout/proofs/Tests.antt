@@ -2,12 +2,12 @@
 -- Assumes nothing.
 use Prim.Native.Nat.{ℕ, zero, suc, _+_, _-_, _≤_, _<_, max}
 use Prim.Native.String.{String}
-use mathlib.Core.Bool.{Bool, true, false, cond, _&&_, _||_, not}
+use mathlib.Core.Bool.{Bool, true, false, cond, _&&_, _||_}
 use mathlib.Core.Logic.{_↔_, _⊎_, inl, inr, ⊎-elim, Iff·rfl, Iff·trans}
 use mathlib.Core.List.{List, [], _∷_, _++_, map}
 use mathlib.Core.Path.{_≡_, refl, sym, ap, _∙_}
 use native.Mathlib.Omega.{arith}
-use native.Mathlib.Nat.{zero-add, suc-add, add-zero}
+use native.Mathlib.Nat.{zero-add}
 use lib.Dec.{T, leb, ltb, eqb, ltb→lt, lt→ltb}
 use lib.IntN.{pos, negℤ}
 use lib.ListN.{length, getD, replicate}
@@ -15,7 +15,7 @@ use lib.Signed.{ltZ}
 use Rattle.layout.specs.Bytes.{bytes, within, member}
 use Rattle.layout.specs.Text.{Class, exactly, plain, sign, digit, among, fits, Number as HeaderNumber, whole}
 use Rattle.layout.specs.Answer.{_⇒_}
-use Rattle.layout.specs.Search.{All, Some, count, find, join}
+use Rattle.layout.specs.Search.{Some, count, find, join}
 use Rattle.layout.specs.Entries.{Entry, at, isData, isReference, called, nonEmpty, start, extent, holds, shares, kindOf, isVariable, isStates, isFixed, allZero, inRange, setFits, numbersFit}
 use Rattle.layout.specs.States.{State, stateFits, attached, stateCount, stateLengths}
 use Rattle.layout.specs.Records.{variableLengths}

@@ -9,21 +9,18 @@ use mathlib.Core.Path.{_≡_, refl, sym, ap, _∙_, subst, fun-ext}
 use native.Mathlib.Omega.{arith}
 use native.Mathlib.Nat.{add-assoc, add-zero, le-of-suc-le-suc, not-suc-le-zero}
 use lib.Dec.{T, ltb}
-use lib.IntN.{pos}
-use lib.Signed.{ltZ}
 use lib.ListN.{length, take, drop, getD, replicate, take-append-drop}
 use lib.Seq.{drop-drop, take-add, take-nil, take-length}
 use Rattle.layout.specs.Bytes.{part}
-use Rattle.layout.specs.Text.{whole}
 use Rattle.layout.specs.Answer.{accepted}
 use Rattle.layout.specs.Search.{All, Some, count, upto, sum, join}
-use Rattle.layout.specs.Entries.{Entry, headersEnd, directory, at, isData, nonEmpty, start, extent, kindOf, isVariable}
+use Rattle.layout.specs.Entries.{Entry, headersEnd, directory, at, nonEmpty, start, extent, kindOf, isVariable}
 use Rattle.layout.specs.States.{State, statesOf}
 use Rattle.layout.specs.Rules.{verdict}
 use Rattle.layout.specs.Faults.{NonEmpty, Byte, Fixed, Variable, NumbersFit}
 use Rattle.layout.specs.Records.{variableLengths, lengths, recordAt, recordLength, recordPart, records}
 use Rattle.layout.specs.Order.{sorted, select, nonEmptyAt, startAt, nonEmptySets, fileOrder, before, rank, recordsAt, recordsInOrder}
-use Rattle.layout.proofs.Laws.{lt-or-le, and-T}
+use Rattle.layout.proofs.Laws.{lt-or-le}
 use Rattle.layout.proofs.Chain.{Pairs, In, Apart, Inside, Chain, chain, joined, chain-joined, tally, sorted-all, sorted-some, sorted-pairs, sorted-sorted, sorted-count, starting-before, ranks}
 use Rattle.layout.proofs.Tests.{nonEmpty-T, nonEmpty-extent, variable-T}
 use Rattle.layout.proofs.Faults.{sum-replicate}

@@ -1,6 +1,6 @@
 -- The answers of `src/` as document 01 has them: for each case of an enum its number and values, and what the structs hold.
 -- Assumes nothing.
-use Prim.Native.Nat.{ℕ, _+_, _-_}
+use Prim.Native.Nat.{ℕ, _-_}
 use Prim.Native.String.{String}
 use mathlib.Core.List.{List, _++_, map}
 use lib.IntN.{ℤ, pos}

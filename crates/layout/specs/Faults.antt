@@ -3,7 +3,7 @@
 -- Assumes nothing.
 use Prim.Native.Nat.{ℕ, suc, _+_, _*_, _≤_, _<_}
 use Prim.Native.String.{String}
-use mathlib.Core.List.{List, [], _∷_, _++_, map}
+use mathlib.Core.List.{List, [], _∷_, _++_}
 use mathlib.Core.Logic.{_⊎_}
 use mathlib.Core.Path.{_≡_}
 use lib.IntN.{pos, negsuc}
@@ -13,7 +13,7 @@ use Rattle.layout.specs.Bytes.{bytes, byteAt}
 use Rattle.layout.specs.Text.{Class, exactly, plain, sign, digit, among, layout, whole}
 use Rattle.layout.specs.Lines.{mph, dsd, spareDsd}
 use Rattle.layout.specs.Answer.{none}
-use Rattle.layout.specs.Search.{All, Some, upto, sum}
+use Rattle.layout.specs.Search.{All, Some, sum}
 use Rattle.layout.specs.Entries.{Entry, largestSigned, totSize, sphSize, numDsd, dsdSize, numDataSets, headersEnd, entries, dsdAt, dsdBytes, entryAt, directory, at, start, extent}
 use Rattle.layout.specs.Sph.{sphLines}
 use Rattle.layout.specs.States.{State, stateAt, stateIn, statesAt}

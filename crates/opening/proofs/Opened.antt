@@ -12,7 +12,7 @@ use Rattle.layout.specs.Answers.{verdictIs}
 use Rattle.layout.specs.declared.Refusal.{Refusal}
 use Rattle.layout.specs.declared.Verdict.{Verdict}
 use Rattle.layout.specs.declared.Verdict.the-variants.{Accepted, Refused}
-use Rattle.layout.proofs.Laws.{orElse-assoc, orElse-accepts, orElse-accepted, accepted≢refused}
+use Rattle.layout.proofs.Laws.{orElse-assoc, orElse-accepts, accepted≢refused}
 use Rattle.header.specs.Checks.{HeaderChecked}
 use Rattle.header.specs.declared.HeaderCheck.{HeaderCheck}
 use Rattle.directory.specs.Checks.{Headers, Checked}

@@ -4,10 +4,10 @@ use Prim.Native.Nat.{ℕ, _+_, _*_, _-_, _≤_, _<_}
 use mathlib.Core.List.{List, []}
 use mathlib.Core.Path.{_≡_, refl, sym, ap, _∙_}
 use native.Mathlib.Omega.{arith}
-use lib.Dec.{ltb, ltb→lt}
+use lib.Dec.{ltb→lt}
 use lib.ListN.{length}
 use Rattle.layout.specs.Bytes.{part}
-use Rattle.layout.specs.Answer.{Answer, accepted, refused, Reply, refusal, is, _else_, _before_}
+use Rattle.layout.specs.Answer.{accepted, refused, Reply, refusal, is, _else_, _before_}
 use Rattle.layout.specs.Entries.{headersEnd, entries, dsdAt, directory, at}
 use Rattle.layout.specs.States.{statesOf}
 use Rattle.layout.specs.Rules.{verdict}
@@ -19,6 +19,7 @@ use Rattle.layout.specs.declared.Verdict.the-variants.{Accepted, Refused}
 use Rattle.layout.specs.declared.Place.{Place}
 use Rattle.layout.specs.declared.Place.the-variants as places
 use Rattle.layout.proofs.Laws.{orElse-accepts, need-accepts}
+use Rattle.layout.proofs.Replies.{else-is, else-refusal}
 use Rattle.layout.proofs.Sound.{sound, length-directory}
 use Rattle.layout.proofs.Whole.{record-inside}
 use Rattle.directory.specs.Checks.{Headers}
@@ -61,18 +62,6 @@ module _ (b : List ℕ) (o : Opening) (opened : Opened b o) where
     lines-are = omega (arith, opened .end a, all-entries, room)
 
 -- ---- places and parts
-
-refusal≢is : {A : Type 0} (n p e : ℕ) (x : A) → refusal n p e ≡ is x → ⊥
-refusal≢is n p e x h = let z : _≡_ {A = ℕ} 0 1 = cc in omega arith
-
--- an answer that hands out a value accepts, and the value is its own
-else-is : {A : Type 0} (a : Answer) (x y : A) → (a else x) ≡ is y → (a ≡ accepted) × (x ≡ y)
-else-is accepted x y h = (refl, cc)
-else-is (refused n p e) x y h = absurd (refusal≢is n p e y h)
-
-else-refusal : {A : Type 0} (a : Answer) (x : A) (n p e : ℕ) → (a else x) ≡ refusal n p e → a ≡ refused n p e
-else-refusal accepted x n p e h = absurd (refusal≢is n p e x (sym h))
-else-refusal (refused n' p' e') x n p e h = cc
 
 -- the span lies in the product
 abbrev Within : List ℕ → Reply Span → Type 0

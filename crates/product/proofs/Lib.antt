@@ -1,2 +1,5 @@
 pub mod Calls
 pub mod Promises
+pub mod Judged
+pub mod Points
+pub mod Numbers

@@ -1,23 +1,23 @@
 -- Theorems over the calls' promises: two results that a promise allows are equal; the records handed out, in file order behind the headers, are the
 -- product; a part is empty exactly where its place is refused or has no byte.
 -- Assumes nothing.
-use Prim.Native.Nat.{ℕ, zero, suc, _+_, _-_, _≤_, _<_}
+use Prim.Native.Nat.{ℕ, zero, suc, _+_, _-_, _^_, _≤_, _<_}
+use mathlib.Core.Bool.{Bool, true, false, cond}
 use mathlib.Core.List.{List, [], _∷_, _++_, map}
 use mathlib.Core.Logic.{_↔_, _⊎_, inl, inr}
 use mathlib.Core.Path.{_≡_, refl, sym, ap, _∙_}
 use native.Mathlib.Omega.{arith}
-use lib.Dec.{T}
-use lib.ListN.{length, drop, length-drop}
+use lib.ListN.{length, drop, replicate, length-drop, length-replicate}
 use lib.Seq.{length-take-le}
 use borrow.Author.Tests.{lt-ltb}
 use Rattle.layout.specs.Bytes.{part}
-use Rattle.layout.specs.Answer.{accepted, refused, Reply, refusal, is}
+use Rattle.layout.specs.Answer.{accepted, Reply, refusal, is}
 use Rattle.layout.specs.Search.{All, upto, join}
-use Rattle.layout.specs.Entries.{Entry, headersEnd, directory, at}
-use Rattle.layout.specs.Faults.{NonEmpty}
+use Rattle.layout.specs.Entries.{Entry, headersEnd, directory, at, kindOf, isVariable}
 use Rattle.layout.specs.States.{statesOf}
 use Rattle.layout.specs.Rules.{verdict}
-use Rattle.layout.specs.Records.{Span, lengths, recordPart, records, recordRefusal, recordPlace, sphPlace, partOf}
+use Rattle.layout.specs.Faults.{NonEmpty}
+use Rattle.layout.specs.Records.{Span, variableLengths, lengths, recordPart, records, recordRefusal, recordPlace, sphPlace, partOf}
 use Rattle.layout.specs.Order.{fileOrder, recordsAt, recordsInOrder}
 use Rattle.layout.specs.Fields.{fieldReply, pointReply}
 use Rattle.layout.specs.Answers.{verdictIs, placeIs, fieldAnswerIs, pointAnswerIs, headerFor, directoryFor}
@@ -28,7 +28,8 @@ use Rattle.layout.specs.declared.PointAnswer.{PointAnswer}
 use Rattle.layout.specs.declared.DirectoryAnswer.{DirectoryAnswer}
 use Rattle.layout.specs.declared.HeaderAnswer.{HeaderAnswer}
 use Rattle.layout.proofs.Maps.{one-verdict, one-place, one-field-answer, one-point-answer}
-use Rattle.layout.proofs.Sound.{sound}
+use Rattle.layout.proofs.Tests.{variable-T}
+use Rattle.layout.proofs.Sound.{length-directory, count-sound, both-accept, accepted-entries, sound}
 use Rattle.layout.proofs.Whole.{joins, only-sets-in-order}
 use Rattle.product.proofs.Calls.{sph-within, record-within}
 
@@ -90,31 +91,51 @@ module _ (b : List ℕ) where
 
   -- ---- the records handed out are the product
 
-  module _ (accepts : verdict b ≡ accepted) (call : ℕ → ℕ → List ℕ) (promise : (i j : ℕ) → call i j ≡ partOf b (recordPlace b i j)) where
+  -- an entry and a record can be asked for up to a usize
+  abbrev usize : ℕ
+  usize = 2 ^ 64
+
+  module _ (accepts : verdict b ≡ accepted) where
     abbrev ds : List Entry
     ds = directory b
 
-    handed : (i : ℕ) → i < length ds → (j : ℕ) → j < length (lengths (statesOf b ds) (at ds i)) → call i j ≡ recordPart b (statesOf b ds) (at ds i) j
-    unfolding recordPlace recordRefusal partOf recordPart
-    handed i l j h = promise i j ∙ rw (accepts, lt-ltb i (length ds) l, lt-ltb j (length (lengths (statesOf b ds) (at ds i))) h)
+    -- an entry has NUM_DSR records, which are fewer
+    as-many : (i : ℕ) → i < length ds → length (lengths (statesOf b ds) (at ds i)) ≡ at ds i .count .magnitude
+    unfolding lengths
+    as-many i l = go (isVariable (at ds i)) refl
+      where
+        go : (v : Bool) → isVariable (at ds i) ≡ v
+            → length (cond v (variableLengths (statesOf b ds) (kindOf (at ds i))) (replicate (at ds i .count .magnitude) (at ds i .recordSize .magnitude))) ≡ at ds i .count .magnitude
+        go true q = sound b accepts .filled i l (variable-T (at ds i) .0 (rw q tt)) .0
+        go false q = length-replicate (at ds i .count .magnitude) (at ds i .recordSize .magnitude)
 
-    upto-same : (f g : ℕ → List ℕ) (n i : ℕ) → ((j : ℕ) → j < i + n → f j ≡ g j) → map f (upto i n) ≡ map g (upto i n)
-    upto-same f g zero i h = refl
-    upto-same f g (suc n) i h = rw (h i (omega arith), upto-same f g n (suc i) (λ j l. h j (omega arith)))
+    few : (i : ℕ) → i < length ds → length (lengths (statesOf b ds) (at ds i)) < usize
+    few i l = omega (arith, as-many i l, count-sound b (both-accept b accepts .0) i l)
 
-    -- the records of entry i, each by a call
-    abbrev recordsBy : ℕ → List (List ℕ)
-    recordsBy i = map (call i) (upto 0 (length (lengths (statesOf b ds) (at ds i))))
+    module _ (call : ℕ → ℕ → List ℕ) (promise : (i j : ℕ) → i < usize → j < usize → call i j ≡ partOf b (recordPlace b i j)) where
+      handed : (i : ℕ) → i < length ds → (j : ℕ) → j < length (lengths (statesOf b ds) (at ds i)) → call i j ≡ recordPart b (statesOf b ds) (at ds i) j
+      unfolding recordPlace recordRefusal partOf recordPart
+      handed i l j h =
+          promise i j (omega (arith, length-directory b, accepted-entries b accepts)) (omega (arith, few i l))
+          ∙ rw (accepts, lt-ltb i (length ds) l, lt-ltb j (length (lengths (statesOf b ds) (at ds i))) h)
 
-    of-entry : (i : ℕ) → i < length ds → recordsBy i ≡ recordsAt b (statesOf b ds) ds i
-    unfolding recordsAt records
-    of-entry i l = upto-same (call i) (recordPart b (statesOf b ds) (at ds i)) (length (lengths (statesOf b ds) (at ds i))) 0 (λ j h. handed i l j (omega arith))
+      upto-same : (f g : ℕ → List ℕ) (n i : ℕ) → ((j : ℕ) → j < i + n → f j ≡ g j) → map f (upto i n) ≡ map g (upto i n)
+      upto-same f g zero i h = refl
+      upto-same f g (suc n) i h = rw (h i (omega arith), upto-same f g n (suc i) (λ j l. h j (omega arith)))
 
-    map-all : (xs : List ℕ) → All (λ i. (i < length ds) × NonEmpty (at ds i)) xs → map recordsBy xs ≡ map (recordsAt b (statesOf b ds) ds) xs
-    map-all [] h = refl
-    map-all (x ∷ xs) h = rw (of-entry x (h .0 .0), map-all xs (h .1))
+      -- the records of entry i, each by a call
+      abbrev recordsBy : ℕ → List (List ℕ)
+      recordsBy i = map (call i) (upto 0 (length (lengths (statesOf b ds) (at ds i))))
 
-    -- headers, and the records by calls, sets in file order
-    pub calls-join : part b 0 1247 ++ (part b 1247 (headersEnd b - 1247) ++ join (join (map recordsBy (fileOrder ds)))) ≡ b
-    unfolding recordsInOrder
-    calls-join = let m = sound b accepts in rw (map-all (fileOrder ds) (only-sets-in-order b m)) (joins b m)
+      of-entry : (i : ℕ) → i < length ds → recordsBy i ≡ recordsAt b (statesOf b ds) ds i
+      unfolding recordsAt records
+      of-entry i l = upto-same (call i) (recordPart b (statesOf b ds) (at ds i)) (length (lengths (statesOf b ds) (at ds i))) 0 (λ j h. handed i l j (omega arith))
+
+      map-all : (xs : List ℕ) → All (λ i. (i < length ds) × NonEmpty (at ds i)) xs → map recordsBy xs ≡ map (recordsAt b (statesOf b ds) ds) xs
+      map-all [] h = refl
+      map-all (x ∷ xs) h = rw (of-entry x (h .0 .0), map-all xs (h .1))
+
+      -- headers, and the records by calls, sets in file order, each asked for by numbers that a usize holds, are the product
+      pub calls-join : part b 0 1247 ++ (part b 1247 (headersEnd b - 1247) ++ join (join (map recordsBy (fileOrder ds)))) ≡ b
+      unfolding recordsInOrder
+      calls-join = let m = sound b accepts in rw (map-all (fileOrder ds) (only-sets-in-order b m)) (joins b m)

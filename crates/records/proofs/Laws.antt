@@ -1,34 +1,33 @@
 -- Records of equal and of unequal lengths, by the arrays of a directory.
 -- Assumes nothing.
-use Prim.Native.Nat.{ℕ, zero, suc, _+_, _*_, _-_, _/_, _≤_, _<_}
+use Prim.Native.Nat.{ℕ, zero, suc, _+_, _*_, _/_, _≤_, _<_}
 use mathlib.Core.Bool.{Bool, true, false, cond}
 use mathlib.Core.List.{List, [], _∷_}
 use mathlib.Core.Logic.{_⊎_, inl, inr}
 use mathlib.Core.Path.{_≡_, refl, sym, ap, _∙_, subst}
 use native.Mathlib.Omega.{arith}
 use native.Mathlib.Nat.{mul-div-cancel-left, mul-le-mul-right, le-of-suc-le-suc, not-suc-le-zero}
-use lib.Dec.{T, ltb, eqb, eqb→eq}
+use lib.Dec.{T, ltb, eqb→eq}
 use lib.ListN.{length, take, getD, replicate, length-replicate, getD-replicate}
 use borrow.Author.Tests.{lt-ltb, le-ltb}
 use Rattle.layout.specs.Answer.{accepted, need, refusal, is}
 use Rattle.layout.specs.Search.{find, count, sum}
-use Rattle.layout.specs.Entries.{Entry, eqZ, directory, at, start, extent, nonEmpty, isData, isVariable, kindOf}
+use Rattle.layout.specs.Entries.{Entry, eqZ, directory, at, start, extent, nonEmpty, isVariable, kindOf}
 use Rattle.layout.specs.States.{State, isStatesAt, statesEntry, statesOf, tallyOf}
 use Rattle.layout.specs.Records.{variableLengths, lengths, recordAt, recordLength, recordRefusal, recordPlace}
 use Rattle.layout.specs.Rules.{headerRules, isVariableAt, statesFit, rule15, rule16, stateRules, verdictFrom, verdict}
 use Rattle.layout.specs.Text.{whole as wholeOf}
 use lib.IntN.{pos}
-use lib.Signed.{ltZ, _<ℤ_}
-use Rattle.layout.proofs.Laws.{and-T, eqb-T, some-T, need-accepts, where-accepts, orElse-accepts, find-bounds}
+use Rattle.layout.proofs.Laws.{eqb-T, some-T, need-accepts, where-accepts, orElse-accepts, find-bounds}
 use Rattle.layout.specs.Faults.{NonEmpty, Fixed, Variable}
-use Rattle.layout.proofs.Tests.{data-T, nonEmpty-T, variable-T}
+use Rattle.layout.proofs.Tests.{nonEmpty-T, variable-T}
 use Rattle.layout.proofs.Faults.{sum-replicate}
 use Rattle.layout.proofs.Sound.{Sound, sound, no-count, rule2-sound}
 use Rattle.directory.specs.Checks.{setsOf}
 use Rattle.directory.specs.declared.Sets.{Sets}
 use Rattle.variable.proofs.States.{roles-at, counts-at, sizes-at, offsets-at, is-variable, role-kind, states-entry, states-missing}
 use Rattle.variable.proofs.Roles.{role-in, role-below, role-above}
-use Rattle.variable.proofs.Described.{held-entries, most-entries, at-least, is-true}
+use Rattle.variable.proofs.Described.{held-entries, most-entries, at-least}
 use Rattle.variable.proofs.Described as described
 use Rattle.states.specs.States.{cap, statesFrom, found}
 use Rattle.states.specs.declared.Found.the-variants.{At, Nothing}

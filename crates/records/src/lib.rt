@@ -1,7 +1,7 @@
 // Where a record of an accepted product lies (document 01, "State records and unequal lengths"), or refusal 17 or 18.
 ghost use mathlib.Core.Path.{_≡_};
 ghost use mathlib.Core.Bool.{false, true};
-ghost use Prim.Native.Nat.{_+_, _*_, _-_, _<_};
+ghost use Prim.Native.Nat.{_+_, _*_, _<_};
 ghost use Rattle.layout.specs.Answers.{placeIs};
 ghost use Rattle.layout.specs.Entries.{directory, at, isVariable, kindOf};
 ghost use Rattle.layout.specs.Records.{recordPlace};

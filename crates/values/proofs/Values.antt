@@ -74,7 +74,7 @@ twelve-fit (x ∷ xs) l h =
     omega (arith, digits-most xs 0 (λ k. h (suc k)), most)
 
 module _ (b : List ℕ) (at width : ℕ) where
-  part-bytes : ((k : ℕ) → getD b k 0 < 256) → (k : ℕ) → getD (part b at width) k 0 < 256
+  pub part-bytes : ((k : ℕ) → getD b k 0 < 256) → (k : ℕ) → getD (part b at width) k 0 < 256
   unfolding part
   part-bytes h k = ⊎-elim
       (λ l. rw (getD-take width (drop at b) k 0 l, getD-drop at b k 0) (h (at + k)))

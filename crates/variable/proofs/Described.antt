@@ -1,14 +1,14 @@
 -- Rules 15 and 16 of a product that meets rules 1 to 14: what each answer of the code says of the rules.
 -- Assumes nothing.
 use Prim.Native.Nat.{ℕ, zero, suc, _+_, _*_, _-_, _^_, _≤_, _<_}
-use mathlib.Core.Bool.{Bool, true, false, cond, not}
+use mathlib.Core.Bool.{Bool, true, false, cond}
 use mathlib.Core.List.{List, [], _∷_}
 use mathlib.Core.Logic.{_⊎_, inl, inr}
 use mathlib.Core.Path.{_≡_, refl, sym, ap, _∙_}
 use native.Mathlib.Omega.{arith}
 use native.Mathlib.Nat.{mul-comm, mul-le-mul-left}
-use lib.Dec.{T, leb, ltb, eqb, eqb→eq, leb→le}
-use lib.IntN.{ℤ, pos, negℤ}
+use lib.Dec.{T, ltb, eqb, eqb→eq, leb→le}
+use lib.IntN.{pos, negℤ}
 use lib.Signed.{leZ, ltZ, _≤ℤ_}
 use lib.ListN.{length, getD}
 use borrow.Author.Tests.{le-leb, lt-leb, eq-eqb, ne-eqb, lt-ltb, le-ltb}
@@ -16,7 +16,7 @@ use Rattle.layout.specs.Text.{Number, whole}
 use Rattle.layout.specs.Answer.{Answer, accepted, refused, _orElse_}
 use Rattle.layout.specs.Search.{some, count, find, sum}
 use Rattle.layout.specs.Entries.{Entry, eqZ, directory, at, start, extent, nonEmpty, isData, isVariable, isStates, called}
-use Rattle.layout.specs.Bytes.{bytes, member}
+use Rattle.layout.specs.Bytes.{bytes}
 use Rattle.layout.specs.States.{State, Tally, isStatesAt, statesEntry, stateAt, statesOf, firstBad, countOfKind, totalOfKind, tallyOf}
 use Rattle.layout.specs.Rules.{stateRules, isVariableAt, statesFit, rule15, rule16, rule16At}
 use Rattle.layout.proofs.Laws.{lt-or-le, and-T, find-at, find-bounds, find-before, first-accepts-0}

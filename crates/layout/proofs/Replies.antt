@@ -1,0 +1,50 @@
+-- The laws of replies: what it says that a reply is a value, or a refusal; and how high the number of a refusal goes.
+-- Assumes nothing.
+use Prim.Native.Nat.{ℕ, _≤_}
+use mathlib.Core.Bool.{Bool, true, false}
+use mathlib.Core.Path.{_≡_, refl, sym}
+use native.Mathlib.Omega.{arith}
+use Rattle.layout.specs.Answer.{Answer, accepted, refused, need, Reply, refusal, is, _orElse_, _else_, _before_}
+use Rattle.layout.proofs.Laws.{accepted≢refused}
+
+module _ {A : Type 0} where
+  pub refusal≢is : (n p e : ℕ) (x : A) → refusal n p e ≡ is x → ⊥
+  refusal≢is n p e x h = let z : _≡_ {A = ℕ} 0 1 = cc in omega arith
+
+  -- an answer that hands out a value accepts, and the value is its own
+  pub else-is : (a : Answer) (x y : A) → (a else x) ≡ is y → (a ≡ accepted) × (x ≡ y)
+  else-is accepted x y h = (refl, cc)
+  else-is (refused n p e) x y h = absurd (refusal≢is n p e y h)
+
+  pub else-refusal : (a : Answer) (x : A) (n p e : ℕ) → (a else x) ≡ refusal n p e → a ≡ refused n p e
+  else-refusal accepted x n p e h = absurd (refusal≢is n p e x (sym h))
+  else-refusal (refused n' p' e') x n p e h = cc
+
+  pub before-is : (a : Answer) (r : Reply A) (y : A) → (a before r) ≡ is y → (a ≡ accepted) × (r ≡ is y)
+  before-is accepted r y h = (refl, h)
+  before-is (refused n p e) r y h = absurd (refusal≢is n p e y h)
+
+-- ---- the number of a refusal is from 1 to `most`
+
+abbrev pub Numbered : ℕ → Answer → Type 0
+Numbered most a = (n p e : ℕ) → a ≡ refused n p e → (1 ≤ n) × (n ≤ most)
+
+abbrev pub NumberedReply : {A : Type 0} → ℕ → Reply A → Type 0
+NumberedReply most r = (n p e : ℕ) → r ≡ refusal n p e → (1 ≤ n) × (n ≤ most)
+
+pub need-numbered : (most : ℕ) (t : Bool) (k p e : ℕ) → 1 ≤ k → k ≤ most → Numbered most (need t k p e)
+need-numbered most true k p e l u n q d h = absurd (accepted≢refused h)
+need-numbered most false k p e l u n q d h = let s : k ≡ n = cc in (omega arith, omega arith)
+
+-- the first of two answers, of which the first may go less high
+pub orElse-numbered : (less most : ℕ) (a b : Answer) → less ≤ most → Numbered less a → Numbered most b → Numbered most (a orElse b)
+orElse-numbered less most accepted b l f g n p e h = g n p e h
+orElse-numbered less most (refused m q d) b l f g n p e h = let r = f n p e h in (r .0, omega (arith, r .1))
+
+module _ {A : Type 0} where
+  pub else-numbered : (most : ℕ) (a : Answer) (x : A) → Numbered most a → NumberedReply most (a else x)
+  else-numbered most a x f n p e h = f n p e (else-refusal a x n p e h)
+
+  pub before-numbered : (less most : ℕ) (a : Answer) (r : Reply A) → less ≤ most → Numbered less a → NumberedReply most r → NumberedReply most (a before r)
+  before-numbered less most accepted r l f g n p e h = g n p e h
+  before-numbered less most (refused m q d) r l f g n p e h = let s : refused m q d ≡ refused n p e = cc in let k = f n p e s in (k .0, omega (arith, k .1))
