@@ -1,6 +1,6 @@
 -- `writing::put_digits` meets its contract. The measure is the number, which falls to its tenth: the digits of that are put first, then the last one.
 -- Assumes nothing.
-use Prim.Native.Nat.{_+_, _/_, _%_, ℕ}
+use Prim.Native.Nat.{_+_, _/_, _%_, ℕ, _<_}
 use mathlib.Core.Path.{_∙_, ap}
 use mathlib.Core.List.{[], _∷_}
 use native.Mathlib.Omega.{arith}
