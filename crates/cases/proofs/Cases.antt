@@ -19,8 +19,9 @@ use Rattle.layout.specs.Rules.{rule1, rule2, rule3, rule4, rule5, sphFits, dsds
 use Rattle.layout.specs.Records.{variableLengths, lengths, recordAt, recordLength, recordPart, Span, recordRefusal, recordPlace}
 use Rattle.layout.specs.Fields.{Value, integer, Position, shapeOf, bytesOf, valueAt, recordOf, endsIn, fieldRefusal, fieldIn, fieldReply, quotient, degrees, metres, inLimits, positionAt, pointRefusal, pointIn, pointReply}
 use Rattle.layout.specs.Listing.{digitsBefore, decimal, signedDecimal, putBefore, trimmed, lineOf, entryLine, acceptedLines, listingFor, listing}
-use Rattle.layout.specs.Answers.{headerOf, padded, directoryOf}
-use Rattle.layout.specs.declared.MainHeader.{MainHeader}
+use Rattle.layout.specs.Answers.{padded, directoryOf}
+use Rattle.values.specs.Header.{headerOf}
+use Rattle.values.specs.declared.MainHeader.{MainHeader}
 use Rattle.cases.proofs.Build.{Given, given, quote, plus, header, dsdOf, mphOf, productOf}
 
 -- ---- the products

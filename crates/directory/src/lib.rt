@@ -11,6 +11,7 @@ ghost use Rattle.layout.specs.Answer.{accepted, refused, need, _orElse_};
 ghost use Rattle.layout.specs.Answers.{verdictIs, padded, nameOf, filenameOf, directoryOf};
 ghost use Rattle.layout.specs.Bytes.{part};
 ghost use Rattle.layout.specs.Entries.{Entry as LayoutEntry, eqZ, numDataSets, directory};
+ghost use Rattle.layout.specs.Lines.{sizeOfDsd};
 ghost use Rattle.layout.specs.Rules.{rule7, rule8At, rule8, rule12At, rule13At, rule14At};
 ghost use Rattle.layout.specs.Search.{first, join};
 ghost use Rattle.layout.specs.Text.{whole};
@@ -181,7 +182,7 @@ fn check_numbers(
     counted: usize,
 ) -> layout::Verdict
     requires { ⌜ Dsds (now p) dsds entries × (fitting ≤ entries) ⌝ }
-    ensures { λ r. ⌜ verdictIs r ≡ (need (eqb fitting entries) 10 (dsds + 280 * fitting) fitting orElse need (eqZ (whole (numDataSets (now (p .entry)))) (pos counted)) 11 1194 128) ⌝ }
+    ensures { λ r. ⌜ verdictIs r ≡ (need (eqb fitting entries) 10 (dsds + sizeOfDsd * fitting) fitting orElse need (eqZ (whole (numDataSets (now (p .entry)))) (pos counted)) 11 1194 128) ⌝ }
 {
     if fitting != entries {
         return refuse(10, (dsds + Entry::SIZE * fitting) as u64, fitting);

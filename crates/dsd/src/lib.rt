@@ -6,6 +6,7 @@ ghost use lib.Dec.{ltb};
 ghost use lib.IntN.{pos};
 ghost use lib.ListN.{length};
 ghost use Rattle.layout.specs.Bytes.{part};
+ghost use Rattle.layout.specs.Lines.{sizeOfDsd};
 ghost use Rattle.layout.specs.Entries.{called, isData, allZero, inRange, isFixed, isVariable, setFits, numbersFit, atLeast};
 ghost use Rattle.dsd.specs.Held.{nameRole, numberFrom, viewOf, Read, overPlace, roleOf};
 
@@ -72,7 +73,7 @@ impl Entry {
 
     // The entry of the DSD that begins at `start`.
     pub fn at(p: &[u8], start: usize) -> Entry
-        requires { ⌜ start + 280 ≤ length (now p) ⌝ }
+        requires { ⌜ start + sizeOfDsd ≤ length (now p) ⌝ }
         ensures { λ r. ⌜ Read (now (p .entry)) start r ⌝ }
     {
         Entry {

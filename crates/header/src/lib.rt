@@ -5,13 +5,15 @@ ghost use lib.IntN.{pos};
 ghost use lib.ListN.{length};
 ghost use Rattle.layout.specs.Bytes.{part};
 ghost use Rattle.layout.specs.Text.{numberOf, whole, layout};
-ghost use Rattle.layout.specs.Lines.{mph};
+ghost use Rattle.layout.specs.Lines.{sizeOfMph, mph};
 ghost use Rattle.layout.specs.Answer.{refused};
 ghost use Rattle.layout.specs.Search.{laidOut};
 ghost use Rattle.layout.specs.Entries.{withinZ};
 ghost use Rattle.layout.specs.Rules.{sphFits, dsdsFit, rule6, rules1to6};
 ghost use Rattle.layout.specs.Answers.{verdictIs};
 ghost use Rattle.header.specs.Checks.{lengthRules, totalRules, HeaderChecked};
+use dsd::Entry;
+use values::MainHeader;
 
 // A refusal that is of no entry.
 fn refuse(number: u8, place: u64) -> layout::Verdict
@@ -28,7 +30,7 @@ fn refuse(number: u8, place: u64) -> layout::Verdict
 fn length_rules(length: u64) -> layout::Verdict
     ensures { λ r. ⌜ verdictIs r ≡ lengthRules length ⌝ }
 {
-    if length < 1247 {
+    if length < MainHeader::SIZE as u64 {
         return refuse(1, length);
     }
     if 2147483647 < length {
@@ -39,11 +41,11 @@ fn length_rules(length: u64) -> layout::Verdict
 
 // Rule 3.
 fn layout_rule(p: &[u8]) -> layout::Verdict
-    requires { ⌜ 1247 ≤ length (now p) ⌝ }
+    requires { ⌜ sizeOfMph ≤ length (now p) ⌝ }
     ensures { λ r. ⌜ verdictIs r ≡ laidOut 3 128 0 (layout mph) (now (p .entry)) ⌝ }
 {
     let bad = lines::main_header_check(p);
-    if bad != 1247 {
+    if bad != MainHeader::SIZE {
         return refuse(3, bad as u64);
     }
     layout::Verdict::Accepted
@@ -51,7 +53,7 @@ fn layout_rule(p: &[u8]) -> layout::Verdict
 
 // Rules 4 and 5.
 fn total_rules(p: &[u8], length: u64) -> layout::Verdict
-    requires { ⌜ (1247 ≤ lib.ListN.length (now p)) × (length ≤ 2147483647) ⌝ }
+    requires { ⌜ (sizeOfMph ≤ lib.ListN.length (now p)) × (length ≤ 2147483647) ⌝ }
     ensures { λ r. ⌜ verdictIs r ≡ totalRules (now (p .entry)) length ⌝ }
 {
     let total = text::number_at(p, 1075, 21);
@@ -87,29 +89,29 @@ fn is_within(p: &[u8], at: usize, most: i64) -> bool
 
 // SPH_SIZE is 0 to 49,152, and the headers do not pass the end.
 fn sph_fits(p: &[u8], length: u64) -> bool
-    requires { ⌜ 1247 ≤ lib.ListN.length (now p) ⌝ }
+    requires { ⌜ sizeOfMph ≤ lib.ListN.length (now p) ⌝ }
     ensures { λ r. ⌜ r ≡ sphFits (now (p .entry)) length ⌝ }
 {
     if !is_within(p, 1113, 49152) {
         return false;
     }
-    1247 + magnitude_at(p, 1113) <= length
+    MainHeader::SIZE as u64 + magnitude_at(p, 1113) <= length
 }
 
 // NUM_DSD is 0 to 128, and its DSDs do not exceed the SPH.
 fn dsds_fit(p: &[u8]) -> bool
-    requires { ⌜ 1247 ≤ length (now p) ⌝ }
+    requires { ⌜ sizeOfMph ≤ length (now p) ⌝ }
     ensures { λ r. ⌜ r ≡ dsdsFit (now (p .entry)) ⌝ }
 {
     if !is_within(p, 1140, 128) {
         return false;
     }
-    280 * magnitude_at(p, 1140) <= magnitude_at(p, 1113)
+    Entry::SIZE as u64 * magnitude_at(p, 1140) <= magnitude_at(p, 1113)
 }
 
 // Rule 6.
 fn size_rules(p: &[u8], length: u64) -> layout::Verdict
-    requires { ⌜ 1247 ≤ lib.ListN.length (now p) ⌝ }
+    requires { ⌜ sizeOfMph ≤ lib.ListN.length (now p) ⌝ }
     ensures { λ r. ⌜ verdictIs r ≡ rule6 (now (p .entry)) length ⌝ }
 {
     if !sph_fits(p, length) {
@@ -119,7 +121,7 @@ fn size_rules(p: &[u8], length: u64) -> layout::Verdict
         return refuse(6, 1140);
     }
     let dsd_size = values::whole_at(p, 1161, 11);
-    if dsd_size != 280 {
+    if dsd_size != Entry::SIZE as i64 {
         return refuse(6, 1161);
     }
     layout::Verdict::Accepted
@@ -127,7 +129,7 @@ fn size_rules(p: &[u8], length: u64) -> layout::Verdict
 
 // Rules 1 to 6 in their order: the first that refuses.
 fn header_rules(p: &[u8], length: u64) -> layout::Verdict
-    requires { ⌜ (1247 ≤ length → 1247 ≤ lib.ListN.length (now p)) ⌝ }
+    requires { ⌜ (sizeOfMph ≤ length → sizeOfMph ≤ lib.ListN.length (now p)) ⌝ }
     ensures { λ r. ⌜ verdictIs r ≡ rules1to6 (now (p .entry)) length ⌝ }
 {
     let by_length = length_rules(length);
@@ -154,7 +156,7 @@ pub struct HeaderCheck {
 
 // Rules 1 to 6 over the bytes at hand, which are the product or only its headers, and the length of the product.
 pub fn check_header(p: &[u8], length: u64) -> HeaderCheck
-    requires { ⌜ (1247 ≤ length → 1247 ≤ lib.ListN.length (now p)) ⌝ }
+    requires { ⌜ (sizeOfMph ≤ length → sizeOfMph ≤ lib.ListN.length (now p)) ⌝ }
     ensures { λ r. ⌜ HeaderChecked (now (p .entry)) length r ⌝ }
 {
     let verdict = header_rules(p, length);
@@ -167,7 +169,7 @@ pub fn check_header(p: &[u8], length: u64) -> HeaderCheck
     }
     HeaderCheck {
         verdict,
-        headers_end: 1247 + magnitude_at(p, 1113) as usize,
+        headers_end: MainHeader::SIZE + magnitude_at(p, 1113) as usize,
         entries: magnitude_at(p, 1140) as usize,
     }
 }

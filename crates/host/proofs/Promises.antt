@@ -10,7 +10,8 @@ use lib.Ieee.{Float}
 use lib.ListN.{length, getD, length-append}
 use Rattle.layout.specs.Answer.{Answer, accepted, refused, Reply, refusal, is}
 use Rattle.layout.specs.Rules.{verdict}
-use Rattle.layout.specs.Answers.{headerFor, directoryFor}
+use Rattle.layout.specs.Answers.{directoryFor}
+use Rattle.values.specs.Header.{headerFor}
 use Rattle.layout.specs.Records.{sphPlace, recordPlace}
 use Rattle.layout.specs.Fields.{fieldReply, pointReply}
 use Rattle.layout.proofs.Laws.{accepted≢refused}

@@ -169,7 +169,7 @@ module _ (b c : List ℕ) (n : ℕ) (same : SameHeaders b c n) where
 
     same-rule13 : rule13 b n ≡ rule13 c n
     unfolding rule13
-    same-rule13 = rw same-directory
+    same-rule13 = simp (same-directory, same-headersEnd)
 
     same-rule14 : rule14 b n ≡ rule14 c n
     unfolding rule14

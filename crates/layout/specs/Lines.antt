@@ -1,7 +1,15 @@
 -- The lines of the main header and of a DSD, as document 01 prints them. That they begin at the printed bytes is a theorem (proofs/Starts).
 -- Assumes nothing.
+use Prim.Native.Nat.{ℕ}
 use mathlib.Core.List.{List, [], _∷_}
 use Rattle.layout.specs.Text.{Line, named, spare, q, c, oneOf, s, sAB}
+
+-- the bytes of the main header, and of a DSD
+abbrev pub sizeOfMph : ℕ
+sizeOfMph = 1247
+
+abbrev pub sizeOfDsd : ℕ
+sizeOfDsd = 280
 
 -- the forty-one lines of the main header
 unfoldable pub mph : List Line

@@ -11,7 +11,11 @@ use Rattle.layout.specs.Answer.{_⇒_}
 use Rattle.layout.specs.Search.{find, upto, sum}
 use Rattle.layout.specs.Entries.{Entry, at, start, isStates}
 
--- table 15.4.1.7.20-1
+-- the bytes of a state record, table 15.4.1.7.20-1
+abbrev pub sizeOfState : ℕ
+sizeOfState = 1387
+
+-- what it answers
 pub record State : Type 0 where
   pub flag : ℕ  -- 0 means records ARE attached
   pub kind : ℕ  -- 1 nadir, 2 limb, 3 occultation, 4 monitoring

@@ -12,13 +12,13 @@ use lib.Seq.{drop-cons, getD-take, getD-drop, length-take-le}
 use borrow.Author.Tests.{eq-eqb, ne-eqb}
 use Rattle.layout.specs.Bytes.{part, byteAt}
 use Rattle.layout.specs.Text.{Class, Line, fits, layout}
-use Rattle.layout.specs.Lines.{dsd, spareDsd}
+use Rattle.layout.specs.Lines.{sizeOfDsd, dsd, spareDsd}
 use Rattle.layout.specs.Rules.{linesOf}
 use Rattle.layout.specs.Answer.{need, _orElse_}
 use Rattle.layout.specs.Search.{laidOut}
 use Rattle.layout.proofs.Laws.{laidOut-take}
 use Rattle.text.proofs.Parts.{byte-part}
-use Rattle.lines.specs.Table.{dsdSize, badPlace}
+use Rattle.lines.specs.Table.{badPlace}
 use Rattle.lines.proofs.Spans.{bad-bounds}
 
 answer : (n e : ℕ) (ks : List Class) (b : List ℕ) (p : ℕ) → p + length ks ≤ length b
@@ -43,29 +43,29 @@ header-answer n e ks b p r m found q h = rw (found, ← q) (answer n e ks b p (o
 -- ---- a DSD
 
 module _ (b : List ℕ) (at : ℕ) where
-  first-byte : byteAt (part b at dsdSize) 0 ≡ getD b at 0
+  first-byte : byteAt (part b at sizeOfDsd) 0 ≡ getD b at 0
   unfolding part byteAt
-  first-byte = getD-take dsdSize (drop at b) 0 0 (omega arith) ∙ getD-drop at b 0 0 ∙ rw (add-zero at)
+  first-byte = getD-take sizeOfDsd (drop at b) 0 0 (omega arith) ∙ getD-drop at b 0 0 ∙ rw (add-zero at)
 
-  pub spare-lines : getD b at 0 ≡ 32 → linesOf (part b at dsdSize) ≡ spareDsd
+  pub spare-lines : getD b at 0 ≡ 32 → linesOf (part b at sizeOfDsd) ≡ spareDsd
   unfolding linesOf
   spare-lines h = rw (first-byte, h)
 
-  pub dsd-lines : (getD b at 0 ≡ 32 → ⊥) → linesOf (part b at dsdSize) ≡ dsd
+  pub dsd-lines : (getD b at 0 ≡ 32 → ⊥) → linesOf (part b at sizeOfDsd) ≡ dsd
   unfolding linesOf
   dsd-lines h = rw (first-byte, ne-eqb (getD b at 0) 32 h)
 
-  pub dsd-answer : (ls : List Line) (r : ℕ) → linesOf (part b at dsdSize) ≡ ls → length (layout ls) ≡ dsdSize → r ≡ badPlace (layout ls) b at → at + dsdSize ≤ length b
-      → (e : ℕ) → laidOut 8 e at (layout (linesOf (part b at dsdSize))) (part b at dsdSize) ≡ need (eqb r (at + dsdSize)) 8 r e
+  pub dsd-answer : (ls : List Line) (r : ℕ) → linesOf (part b at sizeOfDsd) ≡ ls → length (layout ls) ≡ sizeOfDsd → r ≡ badPlace (layout ls) b at → at + sizeOfDsd ≤ length b
+      → (e : ℕ) → laidOut 8 e at (layout (linesOf (part b at sizeOfDsd))) (part b at sizeOfDsd) ≡ need (eqb r (at + sizeOfDsd)) 8 r e
   unfolding part
   dsd-answer ls r which long found h e =
-      rw which (laidOut-take 8 e (layout ls) (drop at b) at dsdSize (omega arith) ∙ header-answer 8 e (layout ls) b at r (at + dsdSize) found (omega arith) h)
+      rw which (laidOut-take 8 e (layout ls) (drop at b) at sizeOfDsd (omega arith) ∙ header-answer 8 e (layout ls) b at r (at + sizeOfDsd) found (omega arith) h)
 
   -- the DSD by itself, as the code lends it: r is its first bad place
-  pub dsd-long : at + dsdSize ≤ length b → dsdSize ≤ length (take (at + dsdSize - at) (drop at b))
+  pub dsd-long : at + sizeOfDsd ≤ length b → sizeOfDsd ≤ length (take (at + sizeOfDsd - at) (drop at b))
   dsd-long h =
-      let q : at + dsdSize - at ≡ dsdSize = omega arith in
-      rw (q, length-take-le dsdSize (drop at b) (rw (length-drop at b) (omega arith))) (omega arith)
+      let q : at + sizeOfDsd - at ≡ sizeOfDsd = omega arith in
+      rw (q, length-take-le sizeOfDsd (drop at b) (rw (length-drop at b) (omega arith))) (omega arith)
 
   part-bad : (ks : List Class) (p n : ℕ) → p + length ks ≤ n → at + badPlace ks (part b at n) p ≡ badPlace ks b (at + p)
   unfolding badPlace
@@ -76,12 +76,12 @@ module _ (b : List ℕ) (at : ℕ) where
       go true e = e ∙ rw (add-suc at p)
       go false e = refl
 
-  module _ (ks : List Class) (r : ℕ) (long : length ks ≡ dsdSize) (found : r ≡ badPlace ks (take (at + dsdSize - at) (drop at b)) 0) where
-    pub dsd-inside : r ≤ dsdSize
-    dsd-inside = omega (arith, bad-bounds ks (take (at + dsdSize - at) (drop at b)) 0 .1)
+  module _ (ks : List Class) (r : ℕ) (long : length ks ≡ sizeOfDsd) (found : r ≡ badPlace ks (take (at + sizeOfDsd - at) (drop at b)) 0) where
+    pub dsd-inside : r ≤ sizeOfDsd
+    dsd-inside = omega (arith, bad-bounds ks (take (at + sizeOfDsd - at) (drop at b)) 0 .1)
 
     pub dsd-place : at + r ≡ badPlace ks b at
     unfolding part
     dsd-place =
-        let q : at + dsdSize - at ≡ dsdSize = omega arith in
-        rw (found, q) (part-bad ks 0 dsdSize (omega arith) ∙ rw (add-zero at))
+        let q : at + sizeOfDsd - at ≡ sizeOfDsd = omega arith in
+        rw (found, q) (part-bad ks 0 sizeOfDsd (omega arith) ∙ rw (add-zero at))

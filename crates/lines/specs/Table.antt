@@ -11,13 +11,6 @@ use Rattle.layout.specs.Bytes.{bytes, part, byteAt}
 use Rattle.layout.specs.Text.{Class, exactly, plain, among, fits, Line, named, spare, s, sAB, literal, valueClasses, lineClasses, layout, valueWidth}
 use Rattle.lines.specs.declared.Row.{Row}
 
--- the bytes of the main header and of a DSD
-abbrev pub mphSize : ℕ
-mphSize = 1247
-
-abbrev pub dsdSize : ℕ
-dsdSize = 280
-
 -- the first place from p on whose byte is not of its class; the place behind the classes where each is
 unfoldable pub badPlace : List Class → List ℕ → ℕ → ℕ
 badPlace [] b p = p

@@ -2,7 +2,7 @@
 // It goes row by row through a constant table of line start, kind and width, and span by span: the literal bytes from the last value on, and the value.
 // A spare's value is its blanks.
 use dsd::Entry;
-use layout::MainHeader;
+use values::MainHeader;
 ghost use mathlib.Core.Path.{_≡_};
 ghost use Prim.Native.Nat.{ℕ, _+_, _-_, _≤_, _<_};
 ghost use mathlib.Core.Bool.{not};
@@ -11,12 +11,12 @@ ghost use lib.Dec.{T, eqb};
 ghost use lib.ListN.{length};
 ghost use Rattle.layout.specs.Bytes.{bytes, part};
 ghost use Rattle.layout.specs.Answer.{need};
-ghost use Rattle.layout.specs.Lines.{mph};
+ghost use Rattle.layout.specs.Lines.{sizeOfMph, sizeOfDsd, mph};
 ghost use Rattle.layout.specs.Rules.{linesOf};
 ghost use Rattle.layout.specs.Search.{some, laidOut};
 ghost use Rattle.layout.specs.Text.{Line, layout, sign, among, fits, spare, s, sAB, literal, valueClasses, lineClasses};
 ghost use Rattle.text.specs.Runs.{Skipped};
-ghost use Rattle.lines.specs.Table.{mphSize, dsdSize, badPlace, differs, valueLaid, widthFits, rowLaid, rowFits, rowOf, tableFits, TableOf};
+ghost use Rattle.lines.specs.Table.{badPlace, differs, valueLaid, widthFits, rowLaid, rowFits, rowOf, tableFits, TableOf};
 
 // The kinds of a table, after the notation of document 01: a spare; text, of q or c; a flag, 0 or 1; a type, one of M A G R; a sign and digits, s;
 // the same with a point and three decimals, or (u, the one kind left) six.
@@ -462,8 +462,8 @@ fn lines_check(
 
 // The first byte of the main header that is not as laid out, or its end.
 pub fn main_header_check(p: &[u8]) -> usize
-    requires { ⌜ mphSize ≤ length (now p) ⌝ }
-    ensures { λ r. ⌜ laidOut 3 128 0 (layout mph) (now (p .entry)) ≡ need (eqb r mphSize) 3 r 128 ⌝ }
+    requires { ⌜ sizeOfMph ≤ length (now p) ⌝ }
+    ensures { λ r. ⌜ laidOut 3 128 0 (layout mph) (now (p .entry)) ≡ need (eqb r sizeOfMph) 3 r 128 ⌝ }
 {
     lines_check(
         p,
@@ -477,8 +477,8 @@ pub fn main_header_check(p: &[u8]) -> usize
 
 // The same of the DSD that begins at `at`. A DSD whose first byte is a blank is a spare.
 pub fn dsd_check(p: &[u8], at: usize) -> usize
-    requires { ⌜ at + dsdSize ≤ length (now p) ⌝ }
-    ensures { λ r. ⌜ ((e : ℕ) → laidOut 8 e at (layout (linesOf (part (now (p .entry)) at dsdSize))) (part (now (p .entry)) at dsdSize) ≡ need (eqb r (at + dsdSize)) 8 r e) ⌝ }
+    requires { ⌜ at + sizeOfDsd ≤ length (now p) ⌝ }
+    ensures { λ r. ⌜ ((e : ℕ) → laidOut 8 e at (layout (linesOf (part (now (p .entry)) at sizeOfDsd))) (part (now (p .entry)) at sizeOfDsd) ≡ need (eqb r (at + sizeOfDsd)) 8 r e) ⌝ }
 {
     if p[at] == b' ' {
         return spare_check(p, at, Entry::SIZE - 1);

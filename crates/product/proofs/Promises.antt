@@ -20,13 +20,14 @@ use Rattle.layout.specs.Faults.{NonEmpty}
 use Rattle.layout.specs.Records.{Span, variableLengths, lengths, recordPart, records, recordRefusal, recordPlace, sphPlace, partOf}
 use Rattle.layout.specs.Order.{fileOrder, recordsAt, recordsInOrder}
 use Rattle.layout.specs.Fields.{fieldReply, pointReply}
-use Rattle.layout.specs.Answers.{verdictIs, placeIs, fieldAnswerIs, pointAnswerIs, headerFor, directoryFor}
+use Rattle.layout.specs.Answers.{verdictIs, placeIs, fieldAnswerIs, pointAnswerIs, directoryFor}
+use Rattle.values.specs.Header.{headerFor}
 use Rattle.layout.specs.declared.Verdict.{Verdict}
 use Rattle.layout.specs.declared.Place.{Place}
 use Rattle.layout.specs.declared.FieldAnswer.{FieldAnswer}
 use Rattle.layout.specs.declared.PointAnswer.{PointAnswer}
 use Rattle.layout.specs.declared.DirectoryAnswer.{DirectoryAnswer}
-use Rattle.layout.specs.declared.HeaderAnswer.{HeaderAnswer}
+use Rattle.values.specs.declared.HeaderAnswer.{HeaderAnswer}
 use Rattle.layout.proofs.Maps.{one-verdict, one-place, one-field-answer, one-point-answer}
 use Rattle.layout.proofs.Tests.{variable-T}
 use Rattle.layout.proofs.Sound.{length-directory, count-sound, both-accept, accepted-entries, sound}

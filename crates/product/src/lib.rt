@@ -3,18 +3,19 @@ ghost use Prim.Native.Nat.{_+_, _≤_};
 ghost use mathlib.Core.Path.{_≡_};
 ghost use lib.ListN.{length};
 ghost use Rattle.layout.specs.Bytes.{part};
-ghost use Rattle.layout.specs.Answers.{verdictIs, placeIs, fieldAnswerIs, pointAnswerIs, headerFor, directoryFor};
+ghost use Rattle.layout.specs.Answers.{verdictIs, placeIs, fieldAnswerIs, pointAnswerIs, directoryFor};
+ghost use Rattle.values.specs.Header.{headerFor};
 ghost use Rattle.layout.specs.Rules.{verdict};
 ghost use Rattle.layout.specs.Records.{sphPlace, recordPlace, partOf};
 ghost use Rattle.layout.specs.Fields.{fieldReply, pointReply};
 use layout::Directory;
 use layout::DirectoryAnswer;
 use layout::FieldAnswer;
-use layout::HeaderAnswer;
-use layout::MainHeader;
 use layout::Place;
 use layout::PointAnswer;
 use layout::Verdict;
+use values::HeaderAnswer;
+use values::MainHeader;
 
 // Accepted, or refused with number, place and entry.
 pub fn judge(p: &[u8]) -> Verdict
@@ -59,7 +60,7 @@ pub fn header_values(p: &[u8]) -> HeaderAnswer
     }
     HeaderAnswer {
         verdict: Verdict::Accepted,
-        header: values::read_header(p),
+        header: MainHeader::at(p),
     }
 }
 

@@ -7,7 +7,7 @@ use Rattle.layout.specs.Records.{Span}
 use Rattle.layout.specs.Fields.{Value, integer, single, double, time, Position}
 use Rattle.words.specs.Words.{verdictWords, placeWords, valueWords, fieldWords, pointWords, pointDoubles}
 use Rattle.tables.specs.Tables.{identityWords, sensingWords, orbitWords, clockWords, sizesWords, headerWords, identityTexts, headerTexts, directoryWords, directoryTexts}
-use Rattle.layout.specs.declared.MainHeader.{MainHeader}
+use Rattle.values.specs.declared.MainHeader.{MainHeader}
 use Rattle.layout.specs.declared.Directory.{Directory}
 
 pub verdict-three : (a : Answer) → length (verdictWords a) ≡ 3

@@ -1,11 +1,11 @@
 // Answers put whole into two lent rooms, where both have room for them. A room too short for the answer returns 1, and nothing is written.
 use layout::Directory;
-use layout::MainHeader;
 use layout::Verdict;
 use tables::put_directory;
 use tables::put_directory_texts;
 use tables::put_header;
 use tables::put_header_texts;
+use values::MainHeader;
 use words::put_words;
 use writing::put_text;
 ghost use mathlib.Core.List.{[], _∷_};

@@ -6,6 +6,7 @@ ghost use lib.Dec.{eqb};
 ghost use lib.ListN.{length};
 ghost use Rattle.layout.specs.Answer.{need};
 ghost use Rattle.layout.specs.Bytes.{part};
+ghost use Rattle.layout.specs.Lines.{sizeOfMph};
 ghost use Rattle.layout.specs.Rules.{rule7At};
 ghost use Rattle.layout.specs.Search.{some, find, first};
 ghost use Rattle.layout.specs.Sph.{ended, blanks, unquoted, quoted, value, keyword, line};
@@ -14,6 +15,7 @@ ghost use Rattle.sph.specs.LineEnds.{inKeyword, Ended};
 use text::first_not_blank;
 use text::first_not_plain;
 use text::is_plain;
+use values::MainHeader;
 
 // The run of a keyword's bytes, as `text` has the runs of other classes.
 
@@ -174,10 +176,10 @@ pub fn line_end(p: &[u8], from: usize, to: usize) -> usize
 
 // The first byte of the first bad or unended line of the SPH before its DSDs, which begin at `to`; or `to` (rule 7).
 pub fn first_bad_line(p: &[u8], to: usize) -> usize
-    requires { ⌜ (1247 ≤ to) × (to ≤ length (now p)) ⌝ }
-    ensures { λ r. ⌜ first (rule7At (part (now (p .entry)) 1247 (to - 1247))) 0 (to - 1247) ≡ need (eqb r to) 7 r 128 ⌝ }
+    requires { ⌜ (sizeOfMph ≤ to) × (to ≤ length (now p)) ⌝ }
+    ensures { λ r. ⌜ first (rule7At (part (now (p .entry)) sizeOfMph (to - sizeOfMph))) 0 (to - sizeOfMph) ≡ need (eqb r to) 7 r 128 ⌝ }
 {
-    let mut start = 1247;
+    let mut start = MainHeader::SIZE;
     while start < to {
         let end = line_end(p, start, to);
         if end == start {

@@ -5,7 +5,7 @@ ghost use lib.Dec.{eqb};
 ghost use Prim.Native.Nat.{_+_, _*_, _≤_, _<_};
 ghost use lib.ListN.{length};
 ghost use Rattle.layout.specs.Bytes.{part};
-ghost use Rattle.layout.specs.States.{stateOf, stateFits, stateCount, tallyOf};
+ghost use Rattle.layout.specs.States.{sizeOfState, stateOf, stateFits, stateCount, tallyOf};
 ghost use Rattle.layout.specs.Records.{variableLengths};
 ghost use Rattle.states.specs.States.{stateIs, cap, capped, Capped, added, statesFrom, tallyIs, found};
 
@@ -22,8 +22,8 @@ impl State {
 
     // The state whose record begins at a place.
     pub fn at(p: &[u8], at: usize) -> State
-        requires { ⌜ at + 1387 ≤ length (now p) ⌝ }
-        ensures { λ r. ⌜ stateIs r ≡ stateOf (part (now (p .entry)) at 1387) ⌝ }
+        requires { ⌜ at + sizeOfState ≤ length (now p) ⌝ }
+        ensures { λ r. ⌜ stateIs r ≡ stateOf (part (now (p .entry)) at sizeOfState) ⌝ }
     {
         State {
             flag: p[at + 12],
@@ -122,7 +122,7 @@ fn fitting(bad: usize, i: usize, fits: bool) -> usize
 
 // Of the states whose records begin at a place and follow each other.
 pub fn tally_states(p: &[u8], start: usize, count: usize) -> Tally
-    requires { ⌜ start + 1387 * count ≤ length (now p) ⌝ }
+    requires { ⌜ start + sizeOfState * count ≤ length (now p) ⌝ }
     ensures { λ r. ⌜ r ≡ tallyIs (tallyOf (statesFrom (now (p .entry)) start count)) ⌝ }
 {
     let mut bad = 0;
@@ -155,7 +155,7 @@ pub enum Found {
 
 // The record that is asked for, of the set of a kind.
 pub fn find_record(p: &[u8], start: usize, count: usize, kind: u8, asked: usize) -> Found
-    requires { ⌜ start + 1387 * count ≤ length (now p) ⌝ }
+    requires { ⌜ start + sizeOfState * count ≤ length (now p) ⌝ }
     ensures { λ r. ⌜ r ≡ found (variableLengths (statesFrom (now (p .entry)) start count) kind) asked ⌝ }
 {
     let mut before = 0;

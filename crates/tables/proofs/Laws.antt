@@ -8,11 +8,11 @@ use lib.Signed.{mag}
 use mir.Syntax.{w64}
 use mir.Val.{toZ, ofZ}
 use mir.Facts.{toZ-ofZ}
-use Rattle.layout.specs.declared.Identity.{Identity}
-use Rattle.layout.specs.declared.Sensing.{Sensing}
-use Rattle.layout.specs.declared.Orbit.{Orbit}
-use Rattle.layout.specs.declared.Clock.{Clock}
-use Rattle.layout.specs.declared.Sizes.{Sizes}
+use Rattle.values.specs.declared.Identity.{Identity}
+use Rattle.values.specs.declared.Sensing.{Sensing}
+use Rattle.values.specs.declared.Orbit.{Orbit}
+use Rattle.values.specs.declared.Clock.{Clock}
+use Rattle.values.specs.declared.Sizes.{Sizes}
 use Rattle.words.specs.Words.{word}
 use Rattle.tables.specs.Tables.{identityWords, sensingWords, orbitWords, clockWords, sizesWords}
 

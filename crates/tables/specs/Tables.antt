@@ -3,12 +3,12 @@
 use Prim.Native.Nat.{ℕ}
 use mathlib.Core.List.{List, [], _∷_, _++_, map}
 use Rattle.layout.specs.Answer.{Answer}
-use Rattle.layout.specs.declared.Identity.{Identity}
-use Rattle.layout.specs.declared.Sensing.{Sensing}
-use Rattle.layout.specs.declared.Orbit.{Orbit}
-use Rattle.layout.specs.declared.Clock.{Clock}
-use Rattle.layout.specs.declared.Sizes.{Sizes}
-use Rattle.layout.specs.declared.MainHeader.{MainHeader}
+use Rattle.values.specs.declared.Identity.{Identity}
+use Rattle.values.specs.declared.Sensing.{Sensing}
+use Rattle.values.specs.declared.Orbit.{Orbit}
+use Rattle.values.specs.declared.Clock.{Clock}
+use Rattle.values.specs.declared.Sizes.{Sizes}
+use Rattle.values.specs.declared.MainHeader.{MainHeader}
 use Rattle.layout.specs.declared.Directory.{Directory}
 use Rattle.words.specs.Words.{word, verdictWords}
 

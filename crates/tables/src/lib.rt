@@ -1,12 +1,12 @@
 // The main header and the directory as a host gets them: their words and their texts, put into lent rooms.
-use layout::Clock;
 use layout::Directory;
-use layout::Identity;
-use layout::MainHeader;
-use layout::Orbit;
-use layout::Sensing;
-use layout::Sizes;
 use layout::Verdict;
+use values::Clock;
+use values::Identity;
+use values::MainHeader;
+use values::Orbit;
+use values::Sensing;
+use values::Sizes;
 use words::put_bytes;
 use words::put_numbers;
 use words::put_verdict;

@@ -4,8 +4,152 @@ ghost use Prim.Native.Nat.{_+_, _≤_, _<_};
 ghost use lib.ListN.{length};
 ghost use Rattle.layout.specs.Bytes.{part};
 ghost use Rattle.layout.specs.Text.{numberOf, whole};
-ghost use Rattle.layout.specs.Entries.{totSize};
-ghost use Rattle.layout.specs.Answers.{headerOf};
+ghost use Rattle.layout.specs.Lines.{sizeOfMph};
+ghost use Rattle.layout.specs.Entries.{largestSigned, totSize};
+ghost use Rattle.values.specs.Header.{headerOf, noHeader};
+use layout::Verdict;
+
+// The values of the main header, in the order of its lines.
+pub struct Identity {
+    pub product: [u8; 62],
+    pub proc_stage: u8,
+    pub ref_doc: [u8; 23],
+    pub acquisition_station: [u8; 20],
+    pub proc_center: [u8; 6],
+    pub proc_time: [u8; 27],
+    pub software_ver: [u8; 14],
+}
+
+pub struct Sensing {
+    pub sensing_start: [u8; 27],
+    pub sensing_stop: [u8; 27],
+    pub phase: u8,
+    pub cycle: i64,
+    pub rel_orbit: i64,
+    pub abs_orbit: i64,
+}
+
+pub struct Orbit {
+    pub state_vector_time: [u8; 27],
+    pub delta_ut1: i64,
+    pub x_position: i64,
+    pub y_position: i64,
+    pub z_position: i64,
+    pub x_velocity: i64,
+    pub y_velocity: i64,
+    pub z_velocity: i64,
+    pub vector_source: [u8; 2],
+}
+
+pub struct Clock {
+    pub utc_sbt_time: [u8; 27],
+    pub sat_binary_time: i64,
+    pub clock_step: i64,
+    pub leap_utc: [u8; 27],
+    pub leap_sign: i64,
+    pub leap_err: u8,
+}
+
+pub struct Sizes {
+    pub product_err: u8,
+    pub tot_size: i64,
+    pub sph_size: i64,
+    pub num_dsd: i64,
+    pub dsd_size: i64,
+    pub num_data_sets: i64,
+}
+
+pub struct MainHeader {
+    pub identity: Identity,
+    pub sensing: Sensing,
+    pub orbit: Orbit,
+    pub clock: Clock,
+    pub sizes: Sizes,
+}
+
+impl Identity {
+    fn none() -> Identity
+        ensures { λ r. ⌜ r ≡ noHeader .identity ⌝ }
+    {
+        Identity {
+            product: [0; 62],
+            proc_stage: 0,
+            ref_doc: [0; 23],
+            acquisition_station: [0; 20],
+            proc_center: [0; 6],
+            proc_time: [0; 27],
+            software_ver: [0; 14],
+        }
+    }
+}
+
+impl Sensing {
+    fn none() -> Sensing
+        ensures { λ r. ⌜ r ≡ noHeader .sensing ⌝ }
+    {
+        Sensing {
+            sensing_start: [0; 27],
+            sensing_stop: [0; 27],
+            phase: 0,
+            cycle: 0,
+            rel_orbit: 0,
+            abs_orbit: 0,
+        }
+    }
+}
+
+impl Orbit {
+    fn none() -> Orbit
+        ensures { λ r. ⌜ r ≡ noHeader .orbit ⌝ }
+    {
+        Orbit {
+            state_vector_time: [0; 27],
+            delta_ut1: 0,
+            x_position: 0,
+            y_position: 0,
+            z_position: 0,
+            x_velocity: 0,
+            y_velocity: 0,
+            z_velocity: 0,
+            vector_source: [0; 2],
+        }
+    }
+}
+
+impl Clock {
+    fn none() -> Clock
+        ensures { λ r. ⌜ r ≡ noHeader .clock ⌝ }
+    {
+        Clock {
+            utc_sbt_time: [0; 27],
+            sat_binary_time: 0,
+            clock_step: 0,
+            leap_utc: [0; 27],
+            leap_sign: 0,
+            leap_err: 0,
+        }
+    }
+}
+
+impl Sizes {
+    fn none() -> Sizes
+        ensures { λ r. ⌜ r ≡ noHeader .sizes ⌝ }
+    {
+        Sizes {
+            product_err: 0,
+            tot_size: 0,
+            sph_size: 0,
+            num_dsd: 0,
+            dsd_size: 0,
+            num_data_sets: 0,
+        }
+    }
+}
+
+pub struct HeaderAnswer {
+    pub verdict: Verdict,
+    pub header: MainHeader,
+}
 
 // The bytes from `at` on fill `d`.
 fn fill(p: &[u8], at: usize, d: &mut [u8])
@@ -85,7 +229,7 @@ fn bytes62(p: &[u8], at: usize) -> [u8; 62]
 
 // The whole number that `width` bytes from `at` on are. A sign and eleven bytes always fit an i64, whatever the bytes.
 pub fn whole_at(p: &[u8], at: usize, width: usize) -> i64
-    requires { ⌜ (1 ≤ width) × (at + width ≤ length (now p)) × (12 < width → numberOf (part (now p) at width) .magnitude ≤ 9223372036854775807) ⌝ }
+    requires { ⌜ (1 ≤ width) × (at + width ≤ length (now p)) × (12 < width → numberOf (part (now p) at width) .magnitude ≤ largestSigned) ⌝ }
     ensures { λ r. ⌜ r ≡ whole (numberOf (part (now (p .entry)) at width)) ⌝ }
 {
     let number = text::number_at(p, at, width);
@@ -93,11 +237,11 @@ pub fn whole_at(p: &[u8], at: usize, width: usize) -> i64
 }
 
 // The five parts of the answer. Each value is read where its keyword's line has it: a number from its sign on, a text behind its quote.
-fn read_identity(p: &[u8]) -> layout::Identity
-    requires { ⌜ 1247 ≤ length (now p) ⌝ }
+fn read_identity(p: &[u8]) -> Identity
+    requires { ⌜ sizeOfMph ≤ length (now p) ⌝ }
     ensures { λ r. ⌜ r ≡ headerOf (now (p .entry)) .identity ⌝ }
 {
-    layout::Identity {
+    Identity {
         product: bytes62(p, 9),
         proc_stage: p[84],
         ref_doc: bytes23(p, 95),
@@ -108,11 +252,11 @@ fn read_identity(p: &[u8]) -> layout::Identity
     }
 }
 
-fn read_sensing(p: &[u8]) -> layout::Sensing
-    requires { ⌜ 1247 ≤ length (now p) ⌝ }
+fn read_sensing(p: &[u8]) -> Sensing
+    requires { ⌜ sizeOfMph ≤ length (now p) ⌝ }
     ensures { λ r. ⌜ r ≡ headerOf (now (p .entry)) .sensing ⌝ }
 {
-    layout::Sensing {
+    Sensing {
         sensing_start: bytes27(p, 351),
         sensing_stop: bytes27(p, 394),
         phase: p[470],
@@ -122,11 +266,11 @@ fn read_sensing(p: &[u8]) -> layout::Sensing
     }
 }
 
-fn read_orbit(p: &[u8]) -> layout::Orbit
-    requires { ⌜ 1247 ≤ length (now p) ⌝ }
+fn read_orbit(p: &[u8]) -> Orbit
+    requires { ⌜ sizeOfMph ≤ length (now p) ⌝ }
     ensures { λ r. ⌜ r ≡ headerOf (now (p .entry)) .orbit ⌝ }
 {
-    layout::Orbit {
+    Orbit {
         state_vector_time: bytes27(p, 536),
         delta_ut1: whole_at(p, 575, 8),
         x_position: whole_at(p, 598, 12),
@@ -139,11 +283,11 @@ fn read_orbit(p: &[u8]) -> layout::Orbit
     }
 }
 
-fn read_clock(p: &[u8]) -> layout::Clock
-    requires { ⌜ 1247 ≤ length (now p) ⌝ }
+fn read_clock(p: &[u8]) -> Clock
+    requires { ⌜ sizeOfMph ≤ length (now p) ⌝ }
     ensures { λ r. ⌜ r ≡ headerOf (now (p .entry)) .clock ⌝ }
 {
-    layout::Clock {
+    Clock {
         utc_sbt_time: bytes27(p, 829),
         sat_binary_time: whole_at(p, 874, 11),
         clock_step: whole_at(p, 897, 11),
@@ -153,11 +297,11 @@ fn read_clock(p: &[u8]) -> layout::Clock
     }
 }
 
-fn read_sizes(p: &[u8]) -> layout::Sizes
-    requires { ⌜ (1247 ≤ length (now p)) × (totSize (now p) .magnitude ≤ 9223372036854775807) ⌝ }
+fn read_sizes(p: &[u8]) -> Sizes
+    requires { ⌜ (sizeOfMph ≤ length (now p)) × (totSize (now p) .magnitude ≤ largestSigned) ⌝ }
     ensures { λ r. ⌜ r ≡ headerOf (now (p .entry)) .sizes ⌝ }
 {
-    layout::Sizes {
+    Sizes {
         product_err: p[1064],
         tot_size: whole_at(p, 1075, 21),
         sph_size: whole_at(p, 1113, 11),
@@ -167,16 +311,33 @@ fn read_sizes(p: &[u8]) -> layout::Sizes
     }
 }
 
-// The values of the main header, all together. Rule 4 has TOT_SIZE fit; the other numbers always do.
-pub fn read_header(p: &[u8]) -> layout::MainHeader
-    requires { ⌜ (1247 ≤ length (now p)) × (totSize (now p) .magnitude ≤ 9223372036854775807) ⌝ }
-    ensures { λ r. ⌜ r ≡ headerOf (now (p .entry)) ⌝ }
-{
-    layout::MainHeader {
-        identity: read_identity(p),
-        sensing: read_sensing(p),
-        orbit: read_orbit(p),
-        clock: read_clock(p),
-        sizes: read_sizes(p),
+impl MainHeader {
+    pub const SIZE: usize = 1247;
+
+    // The values of a product's main header. Rule 4 has TOT_SIZE fit; the other numbers always do.
+    pub fn at(p: &[u8]) -> MainHeader
+        requires { ⌜ (sizeOfMph ≤ length (now p)) × (totSize (now p) .magnitude ≤ largestSigned) ⌝ }
+        ensures { λ r. ⌜ r ≡ headerOf (now (p .entry)) ⌝ }
+    {
+        MainHeader {
+            identity: read_identity(p),
+            sensing: read_sensing(p),
+            orbit: read_orbit(p),
+            clock: read_clock(p),
+            sizes: read_sizes(p),
+        }
+    }
+
+    // What stands beside a refusal.
+    pub fn none() -> MainHeader
+        ensures { λ r. ⌜ r ≡ noHeader ⌝ }
+    {
+        MainHeader {
+            identity: Identity::none(),
+            sensing: Sensing::none(),
+            orbit: Orbit::none(),
+            clock: Clock::none(),
+            sizes: Sizes::none(),
+        }
     }
 }

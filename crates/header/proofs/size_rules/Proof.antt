@@ -32,6 +32,9 @@ returns-2 c =
 whole-at-requires : tie.Need-whole-at-requires
 whole-at-requires c κs = search needs
 
+cast-if3 : tie.Need-cast-if3
+cast-if3 c = search needs
+
 refuse-requires-3 : tie.Need-refuse-requires-3
 refuse-requires-3 c κs = search needs
 
@@ -58,6 +61,7 @@ size-rules-spec =
     refuse-requires-2
     returns-2
     whole-at-requires
+    cast-if3
     refuse-requires-3
     returns-3
     returns-4)

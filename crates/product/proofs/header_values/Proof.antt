@@ -1,7 +1,8 @@
 -- `product::header_values` meets its contract.
 -- Assumes nothing.
 use mathlib.Core.Path.{sym, ap, _∙_}
-use Rattle.layout.specs.Answers.{verdictIs, headerFor}
+use Rattle.layout.specs.Answers.{verdictIs}
+use Rattle.values.specs.Header.{headerFor}
 use Rattle.header.proofs.Rules.{long-enough, total-fits}
 use Rattle.opening.proofs.Opened.{first-six}
 use Rattle.product.proofs.Calls.{is-refused, is-accepted}
@@ -25,12 +26,12 @@ returns c = (sym (is-refused _ _ (c .before .before .before .before .open-produc
 enum-told : tie.Need-enum-told
 enum-told c = search needs
 
-read-header-requires : tie.Need-read-header-requires
-read-header-requires c κs = let s = first-six _ (is-accepted _ _ (c .before .before .open-product .ensures) (c .enum-told .given .1)) in (long-enough _ _ s, total-fits _ _ s)
+at-requires : tie.Need-at-requires
+at-requires c κs = let s = first-six _ (is-accepted _ _ (c .before .before .open-product .ensures) (c .enum-told .given .1)) in (long-enough _ _ s, total-fits _ _ s)
 
 returns-2 : tie.Need-returns-2
 unfolding verdictIs
-returns-2 c = (sym (is-accepted _ _ (c .before .before .before .open-product .ensures) (c .before .enum-told .given .1)), c .read-header .ensures ∙ ap (λ a. headerFor a (c .before .before .before .before .before .args .p .now)) (sym (is-accepted _ _ (c .before .before .before .open-product .ensures) (c .before .enum-told .given .1))))
+returns-2 c = (sym (is-accepted _ _ (c .before .before .before .open-product .ensures) (c .before .enum-told .given .1)), c .at .ensures ∙ ap (λ a. headerFor a (c .before .before .before .before .before .args .p .now)) (sym (is-accepted _ _ (c .before .before .before .open-product .ensures) (c .before .enum-told .given .1))))
 
 pub header-values-spec : {M : Type 1} → statement M
 header-values-spec =
@@ -41,5 +42,5 @@ header-values-spec =
     none-requires
     returns
     enum-told
-    read-header-requires
+    at-requires
     returns-2)

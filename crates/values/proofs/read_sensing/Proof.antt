@@ -5,7 +5,7 @@ use borrow.Author.Needs.{needs}
 use Rattle.layout.specs.Text.{valueOf, placeOf, widthOf, lineClasses, valueClasses, quoteWidth, valueWidth}
 use Rattle.layout.specs.Lines.{mph}
 use Rattle.layout.specs.Entries.{headerNumber}
-use Rattle.layout.specs.Answers.{headerOf}
+use Rattle.values.specs.Header.{headerOf}
 use Rattle.values.proofs.Values.{kept, one-byte}
 use Rattle.values.proofs.read_sensing.Statement.{statement}
 use Rattle.values.proofs.read_sensing.Tie as tie

@@ -1,9 +1,9 @@
--- `values::read_header` meets its contract, part by part.
+-- `values::MainHeader::at` meets its contract, part by part.
 -- Assumes nothing.
 use borrow.Author.Needs.{needs}
-use Rattle.layout.specs.Answers.{headerOf}
-use Rattle.values.proofs.read_header.Statement.{statement}
-use Rattle.values.proofs.read_header.Tie as tie
+use Rattle.values.specs.Header.{headerOf}
+use Rattle.values.proofs.MainHeader.at.Statement.{statement}
+use Rattle.values.proofs.MainHeader.at.Tie as tie
 
 read-identity-requires : tie.Need-read-identity-requires
 read-identity-requires c κs = search needs
@@ -31,8 +31,8 @@ returns c =
       sizes = c .read-sizes .ensures j;
     }
 
-pub read-header-spec : {M : Type 1} → statement M
-read-header-spec =
+pub at-spec : {M : Type 1} → statement M
+at-spec =
     tie.close
     (tie.spec
     read-identity-requires

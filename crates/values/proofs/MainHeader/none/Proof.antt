@@ -1,8 +1,8 @@
--- `layout::MainHeader::none` meets its contract.
+-- `values::MainHeader::none` meets its contract.
 -- Assumes nothing.
 use borrow.Author.Needs.{needs}
-use Rattle.layout.proofs.MainHeader.none.Statement.{statement}
-use Rattle.layout.proofs.MainHeader.none.Tie as tie
+use Rattle.values.proofs.MainHeader.none.Statement.{statement}
+use Rattle.values.proofs.MainHeader.none.Tie as tie
 
 none-requires : tie.Need-none-requires
 none-requires c κs = search needs
