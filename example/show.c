@@ -76,7 +76,7 @@ static int show_directory(const uint8_t *product, size_t length)
     return 0;
 }
 
-static void print_field(uint8_t kind, const uint64_t *words)
+static void print_field(size_t kind, const uint64_t *words)
 {
     uint32_t single_bits = (uint32_t)words[4];
     float single_value;
@@ -107,7 +107,7 @@ static int show_record(const uint8_t *product, size_t length, size_t entry, size
         return 1;
     }
     printf("record %zu of entry %zu: %" PRIu64 " bytes at %" PRIu64 "\n", record, entry, place[4], place[3]);
-    for (uint8_t kind = 1; kind <= 9; kind++) {
+    for (size_t kind = 1; kind <= 9; kind++) {
         uint64_t words[AMBROTHEL_FIELD_WORDS];
         if (ambrothel_field_at(product, length, entry, record, 0, kind, words, AMBROTHEL_FIELD_WORDS)) {
             return 1;

@@ -111,14 +111,14 @@ uint32_t ambrothel_record_part(const uint8_t *product, size_t length, size_t ent
                                size_t words_length, uint8_t *bytes, size_t bytes_length);
 
 /* A field of a record, by its offset in the record and its kind:
- * 1 sc, 2 uc, 3 ss, 4 us, 5 sl, 6 ul, 7 fl, 8 do, 9 mjd.
+ * 1 sc, 2 uc, 3 ss, 4 us, 5 sl, 6 ul, 7 fl, 8 do, 9 mjd; every other number is refused with 19.
  *     words[3]  which case: 1 a whole number, 2 a single float, 3 a double float, 4 a time; 0 beside a refusal
  *     words[4]  the number; the float's 32 or 64 bits, as they stand in the product; the days from 1 January 2000
  *     words[5]  the seconds of a time, else 0
  *     words[6]  the microseconds of a time, else 0
  */
 uint32_t ambrothel_field_at(const uint8_t *product, size_t length, size_t entry, size_t record, size_t offset,
-                            uint8_t kind, uint64_t *words, size_t words_length);
+                            size_t kind, uint64_t *words, size_t words_length);
 
 /* The point at three offsets of a record: point[0] latitude and point[1] longitude in degrees, point[2] altitude in
  * metres; all 0 beside a refusal. */

@@ -124,9 +124,8 @@ impl Lines<'_> {
             return;
         }
         for kind in 0..=10 {
-            let offset = usize::from(kind);
-            let field = Call::FieldAt { entry, record, offset, kind }.answer(self.product);
-            self.numbers("field_at", &[entry, record, offset, offset], &field.words);
+            let field = Call::FieldAt { entry, record, offset: kind, kind }.answer(self.product);
+            self.numbers("field_at", &[entry, record, kind, kind], &field.words);
         }
         for offsets in [[0, 4, 8], [4, 8, 0]] {
             let point = Call::PointAt { entry, record, offsets }.answer(self.product);

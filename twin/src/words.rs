@@ -27,7 +27,7 @@ pub enum Call {
     SphPart,
     RecordPlace { entry: usize, record: usize },
     RecordPart { entry: usize, record: usize },
-    FieldAt { entry: usize, record: usize, offset: usize, kind: u8 },
+    FieldAt { entry: usize, record: usize, offset: usize, kind: usize },
     PointAt { entry: usize, record: usize, offsets: [usize; 3] },
 }
 
@@ -57,7 +57,7 @@ impl Call {
                 part_answer(record_part(product, entry, record as u64))
             }
             Call::FieldAt { entry, record, offset, kind } => {
-                field_answer(field(product, entry, record as u64, offset as u64, u64::from(kind)))
+                field_answer(field(product, entry, record as u64, offset as u64, kind as u64))
             }
             Call::PointAt { entry, record, offsets } => {
                 let [latitude, longitude, altitude] = offsets.map(|offset| offset as u64);

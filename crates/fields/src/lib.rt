@@ -16,15 +16,10 @@ use layout::Time;
 // The bytes of the kinds 1 sc, 2 uc, 3 ss, 4 us, 5 sl, 6 ul, 7 fl, 8 do, 9 mjd; 0 is no kind.
 const WIDTHS: [usize; 10] = [0, 1, 1, 2, 2, 4, 4, 4, 8, 12];
 
-fn width_of(kind: u8) -> usize
+fn width_of(kind: usize) -> usize
     ensures { λ r. ⌜ r ≡ bytesOf (shapeOf kind) ⌝ }
 {
-    if kind < 10 {
-        let k = kind as usize;
-        WIDTHS[k]
-    } else {
-        0
-    }
+    if kind < 10 { WIDTHS[kind] } else { 0 }
 }
 
 // Whether a field ends in a record of this length. Nothing is added, since an offset may be any number.
@@ -92,7 +87,7 @@ fn time_at(bytes: &[u8], offset: usize) -> Field
 }
 
 // The value of a kind whose bytes are all there.
-fn value_at(bytes: &[u8], offset: usize, kind: u8, width: usize) -> Field
+fn value_at(bytes: &[u8], offset: usize, kind: usize, width: usize) -> Field
     requires { ⌜ (width ≡ bytesOf (shapeOf kind)) × (1 ≤ width) × (offset + width ≤ length (now bytes)) ⌝ }
     ensures { λ r. ⌜ fieldIs r ≡ valueAt (now (bytes .entry)) offset (shapeOf kind) ⌝ }
 {
@@ -106,7 +101,7 @@ fn value_at(bytes: &[u8], offset: usize, kind: u8, width: usize) -> Field
 }
 
 // The field of a kind at an offset of a record, the entry of which is only answered.
-pub fn field_in(bytes: &[u8], entry: usize, offset: usize, kind: u8) -> FieldAnswer
+pub fn field_in(bytes: &[u8], entry: usize, offset: usize, kind: usize) -> FieldAnswer
     ensures { λ r. ⌜ fieldAnswerIs r ≡ fieldIn (now (bytes .entry)) entry offset kind ⌝ }
 {
     let width = width_of(kind);

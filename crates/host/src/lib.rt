@@ -105,7 +105,7 @@ pub extern "C" fn ambrothel_field_at(
     entry: usize,
     asked: usize,
     offset: usize,
-    kind: u8,
+    kind: usize,
     words: &mut [u64],
 ) -> u32
     ensures { λ r. ⌜ OneRoom (fieldWords (fieldReply (now (p .entry)) entry asked offset kind)) (now (words .entry)) (now (words .exit)) r ⌝ }

@@ -35,10 +35,6 @@ module _ (m : ℕ) (v : ℤ) where
   unfolding inLimits
   high-enough e = sym (rw (leZ-not (negℤ (pos m)) v, e))
 
--- what a test that came out u says of the angle y
-pub tested : (m : ℕ) {x y : ℤ} {t u : Bool} → x ≡ y → t ≡ inLimits m x → t ≡ u → inLimits m y ≡ u
-tested m e h k = ap (inLimits m) (sym e) ∙ sym h ∙ k
-
 -- the machine's -m
 negative : (m : ℕ) → pos 0 -ℤ pos m ≡ negℤ (pos m)
 negative zero = refl

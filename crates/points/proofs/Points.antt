@@ -1,40 +1,55 @@
 -- What a record answers by three offsets: the first refusal in the order of document 01, or the point. Assumes nothing.
-use mathlib.Core.Path.{_≡_, sym}
-use mathlib.Core.Bool.{true, false}
+use mathlib.Core.Path.{_≡_, sym, _∙_}
 use mathlib.Core.List.{List}
 use Prim.Native.Nat.{ℕ, _+_, _≤_}
-use borrow.Author.Tests.{le-leb}
-use lib.Dec.{leb}
-use lib.Ieee.{Float}
+use lib.Dec.{leb, leb→le}
 use lib.ListN.{length}
-use Rattle.layout.specs.Bytes.{unsignedAt, signedAt}
-use Rattle.layout.specs.Answer.{refusal, is}
-use Rattle.layout.specs.Fields.{degrees, metres, inLimits, endsIn, positionAt, pointRefusal, pointIn}
+use Rattle.layout.specs.Bytes.{signedAt}
+use Rattle.layout.specs.Answer.{Answer, accepted, refused, need, refusal, is}
+use Rattle.layout.specs.Fields.{inLimits, endsIn, positionAt, pointRefusal, pointIn}
+use Rattle.layout.specs.Answers.{verdictIs}
+use Rattle.layout.specs.declared.Refusal.{Refusal}
+use Rattle.layout.specs.declared.Verdict.{Verdict}
+use Rattle.layout.specs.declared.Verdict.the-variants.{Accepted, Refused}
+use Rattle.layout.proofs.Laws.{need-accepts}
+
+-- what a check says that came out so
+pub accepts : (v : Verdict) (a : Answer) → verdictIs v ≡ a → v ≡ Accepted → a ≡ accepted
+unfolding verdictIs
+accepts v a h e = sym h ∙ rw e
+
+pub refuses : (v : Verdict) (a : Answer) (f : Refusal) → verdictIs v ≡ a → v ≡ Refused f → a ≡ refused (f .number) (f .place) (f .entry)
+unfolding verdictIs
+refuses v a f h e = sym h ∙ rw e
+
+pub all-there : (v : Verdict) (r : List ℕ) (i off : ℕ) → verdictIs v ≡ endsIn r i off 4 → v ≡ Accepted → off + 4 ≤ length r
+unfolding endsIn
+all-there v r i off h e = leb→le (off + 4) (length r) (need-accepts (leb (off + 4) (length r)) 20 off i .0 (accepts v (endsIn r i off 4) h e))
 
 module _ (r : List ℕ) (i lat lon alt : ℕ) where
-  pub past-latitude : leb (lat + 4) (length r) ≡ false → refusal 20 lat i ≡ pointIn r i lat lon alt
-  unfolding pointIn pointRefusal endsIn
-  past-latitude a = sym (rw a)
+  module _ (n p e : ℕ) where
+    pub past-latitude : endsIn r i lat 4 ≡ refused n p e → refusal n p e ≡ pointIn r i lat lon alt
+    unfolding pointIn pointRefusal
+    past-latitude a = sym (rw a)
 
-  pub past-longitude : leb (lat + 4) (length r) ≡ true → leb (lon + 4) (length r) ≡ false → refusal 20 lon i ≡ pointIn r i lat lon alt
-  unfolding pointIn pointRefusal endsIn
-  past-longitude a b = sym (rw (a, b))
+    pub past-longitude : endsIn r i lat 4 ≡ accepted → endsIn r i lon 4 ≡ refused n p e → refusal n p e ≡ pointIn r i lat lon alt
+    unfolding pointIn pointRefusal
+    past-longitude a b = sym (rw (a, b))
 
-  pub past-altitude : leb (lat + 4) (length r) ≡ true → leb (lon + 4) (length r) ≡ true → leb (alt + 4) (length r) ≡ false → refusal 20 alt i ≡ pointIn r i lat lon alt
-  unfolding pointIn pointRefusal endsIn
-  past-altitude a b c = sym (rw (a, b, c))
+    pub past-altitude : endsIn r i lat 4 ≡ accepted → endsIn r i lon 4 ≡ accepted → endsIn r i alt 4 ≡ refused n p e → refusal n p e ≡ pointIn r i lat lon alt
+    unfolding pointIn pointRefusal
+    past-altitude a b c = sym (rw (a, b, c))
 
-  module _ (a : lat + 4 ≤ length r) (b : lon + 4 ≤ length r) (c : alt + 4 ≤ length r) where
-    pub latitude-out : inLimits 90000000 (signedAt r lat 4) ≡ false → refusal 21 lat i ≡ pointIn r i lat lon alt
-    unfolding pointIn pointRefusal endsIn
-    latitude-out e = sym (rw (le-leb (lat + 4) (length r) a, le-leb (lon + 4) (length r) b, le-leb (alt + 4) (length r) c, e))
+  module _ (a : endsIn r i lat 4 ≡ accepted) (b : endsIn r i lon 4 ≡ accepted) (c : endsIn r i alt 4 ≡ accepted) where
+    pub latitude-out : (n p e : ℕ) → need (inLimits 90000000 (signedAt r lat 4)) 21 lat i ≡ refused n p e → refusal n p e ≡ pointIn r i lat lon alt
+    unfolding pointIn pointRefusal
+    latitude-out n p e d = sym (rw (a, b, c, d))
 
-    module _ (e : inLimits 90000000 (signedAt r lat 4) ≡ true) where
-      pub longitude-out : inLimits 180000000 (signedAt r lon 4) ≡ false → refusal 21 lon i ≡ pointIn r i lat lon alt
-      unfolding pointIn pointRefusal endsIn
-      longitude-out f = sym (rw (le-leb (lat + 4) (length r) a, le-leb (lon + 4) (length r) b, le-leb (alt + 4) (length r) c, e, f))
+    module _ (d : need (inLimits 90000000 (signedAt r lat 4)) 21 lat i ≡ accepted) where
+      pub longitude-out : (n p e : ℕ) → need (inLimits 180000000 (signedAt r lon 4)) 21 lon i ≡ refused n p e → refusal n p e ≡ pointIn r i lat lon alt
+      unfolding pointIn pointRefusal
+      longitude-out n p e f = sym (rw (a, b, c, d, f))
 
-      pub found : inLimits 180000000 (signedAt r lon 4) ≡ true → (x y z : Float) → x ≡ degrees (signedAt r lat 4) → y ≡ degrees (signedAt r lon 4) → z ≡ metres (unsignedAt r alt 4)
-          → is (record { latitude = x; longitude = y; altitude = z }) ≡ pointIn r i lat lon alt
-      unfolding pointIn pointRefusal endsIn positionAt
-      found f x y z p q s = sym (rw (le-leb (lat + 4) (length r) a, le-leb (lon + 4) (length r) b, le-leb (alt + 4) (length r) c, e, f, p, q, s))
+      pub found : need (inLimits 180000000 (signedAt r lon 4)) 21 lon i ≡ accepted → is (positionAt r lat lon alt) ≡ pointIn r i lat lon alt
+      unfolding pointIn pointRefusal
+      found f = sym (rw (a, b, c, d, f))

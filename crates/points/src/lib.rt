@@ -2,22 +2,34 @@
 ghost use mathlib.Core.Path.{_≡_};
 ghost use Prim.Native.Nat.{_+_, _≤_};
 ghost use lib.ListN.{length};
-ghost use Rattle.layout.specs.Answer.{refusal};
-ghost use Rattle.layout.specs.Fields.{inLimits, pointIn};
-ghost use Rattle.layout.specs.Answers.{pointAnswerIs};
+ghost use Rattle.layout.specs.Bytes.{signedAt};
+ghost use Rattle.layout.specs.Answer.{refused, need, is};
+ghost use Rattle.layout.specs.Fields.{inLimits, endsIn, positionAt, pointIn};
+ghost use Rattle.layout.specs.Answers.{verdictIs, pointAnswerIs};
 use fields::ends_in;
 use layout::Point;
 use layout::PointAnswer;
 use layout::Refusal;
+use layout::Verdict;
 
-fn refused_point(number: u8, place: usize, entry: usize) -> PointAnswer
-    ensures { λ r. ⌜ pointAnswerIs r ≡ refusal number place entry ⌝ }
+fn refuse(number: u8, place: usize, entry: usize) -> Verdict
+    ensures { λ r. ⌜ verdictIs r ≡ refused number place entry ⌝ }
 {
-    PointAnswer::Refused(Refusal {
+    Verdict::Refused(Refusal {
         number,
         place: place as u64,
         entry,
     })
+}
+
+// 20: the four bytes at an offset pass the record's end.
+fn check_end(bytes: &[u8], entry: usize, offset: usize) -> Verdict
+    ensures { λ r. ⌜ verdictIs r ≡ endsIn (now (bytes .entry)) entry offset 4 ⌝ }
+{
+    if ends_in(bytes.len(), offset, 4) {
+        return Verdict::Accepted;
+    }
+    refuse(20, offset, entry)
 }
 
 // Whether an angle in 10^-6 degree lies within these limits, either way.
@@ -31,25 +43,24 @@ fn in_limits(v: i64, most: u32) -> bool
     v <= limit
 }
 
+// 21: the angle at an offset lies outside its limits.
+fn check_limit(bytes: &[u8], entry: usize, offset: usize, most: u32) -> Verdict
+    requires { ⌜ offset + 4 ≤ length (now bytes) ⌝ }
+    ensures { λ r. ⌜ verdictIs r ≡ need (inLimits most (signedAt (now (bytes .entry)) offset 4)) 21 offset entry ⌝ }
+{
+    if in_limits(octets::signed(bytes, offset, 4), most) {
+        return Verdict::Accepted;
+    }
+    refuse(21, offset, entry)
+}
+
 // The point at three offsets, where all three fields end in the record.
-fn point_at(
-    bytes: &[u8],
-    entry: usize,
-    latitude: usize,
-    longitude: usize,
-    altitude: usize,
-) -> PointAnswer
+fn point_at(bytes: &[u8], latitude: usize, longitude: usize, altitude: usize) -> PointAnswer
     requires { ⌜ (latitude + 4 ≤ length (now bytes)) × (longitude + 4 ≤ length (now bytes)) × (altitude + 4 ≤ length (now bytes)) ⌝ }
-    ensures { λ r. ⌜ pointAnswerIs r ≡ pointIn (now (bytes .entry)) entry latitude longitude altitude ⌝ }
+    ensures { λ r. ⌜ pointAnswerIs r ≡ is (positionAt (now (bytes .entry)) latitude longitude altitude) ⌝ }
 {
     let whole_latitude = octets::signed(bytes, latitude, 4);
-    if !in_limits(whole_latitude, 90_000_000) {
-        return refused_point(21, latitude, entry);
-    }
     let whole_longitude = octets::signed(bytes, longitude, 4);
-    if !in_limits(whole_longitude, 180_000_000) {
-        return refused_point(21, longitude, entry);
-    }
     let whole_altitude = octets::unsigned(bytes, altitude, 4);
     PointAnswer::At(Point {
         latitude: quotient::degrees(whole_latitude as i32),
@@ -68,14 +79,20 @@ pub fn point_in(
 ) -> PointAnswer
     ensures { λ r. ⌜ pointAnswerIs r ≡ pointIn (now (bytes .entry)) entry latitude longitude altitude ⌝ }
 {
-    if !ends_in(bytes.len(), latitude, 4) {
-        return refused_point(20, latitude, entry);
+    if let Verdict::Refused(refusal) = check_end(bytes, entry, latitude) {
+        return PointAnswer::Refused(refusal);
     }
-    if !ends_in(bytes.len(), longitude, 4) {
-        return refused_point(20, longitude, entry);
+    if let Verdict::Refused(refusal) = check_end(bytes, entry, longitude) {
+        return PointAnswer::Refused(refusal);
     }
-    if !ends_in(bytes.len(), altitude, 4) {
-        return refused_point(20, altitude, entry);
+    if let Verdict::Refused(refusal) = check_end(bytes, entry, altitude) {
+        return PointAnswer::Refused(refusal);
     }
-    point_at(bytes, entry, latitude, longitude, altitude)
+    if let Verdict::Refused(refusal) = check_limit(bytes, entry, latitude, 90_000_000) {
+        return PointAnswer::Refused(refusal);
+    }
+    if let Verdict::Refused(refusal) = check_limit(bytes, entry, longitude, 180_000_000) {
+        return PointAnswer::Refused(refusal);
+    }
+    point_at(bytes, latitude, longitude, altitude)
 }

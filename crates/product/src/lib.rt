@@ -125,7 +125,7 @@ pub fn record_part(p: &[u8], entry: usize, asked: usize) -> &[u8]
 }
 
 // A field of a record, by its offset in the record and its kind.
-pub fn field_at(p: &[u8], entry: usize, asked: usize, offset: usize, kind: u8) -> FieldAnswer
+pub fn field_at(p: &[u8], entry: usize, asked: usize, offset: usize, kind: usize) -> FieldAnswer
     ensures { λ r. ⌜ fieldAnswerIs r ≡ fieldReply (now (p .entry)) entry asked offset kind ⌝ }
 {
     match record_place(p, entry, asked) {

@@ -175,17 +175,16 @@ fn show_record_part(p: &[u8], entry: usize, asked: usize) {
 }
 
 // A field at the offset of its kind's number.
-fn show_field(p: &[u8], entry: usize, asked: usize, kind: u8) {
-    let offset = kind as usize;
-    let question = [entry as u64, asked as u64, offset as u64, offset as u64];
+fn show_field(p: &[u8], entry: usize, asked: usize, kind: usize) {
+    let question = [entry as u64, asked as u64, kind as u64, kind as u64];
     let mut words = [0u64; 7];
-    host::ambrothel_field_at(p, entry, asked, offset, kind, &mut words);
+    host::ambrothel_field_at(p, entry, asked, kind, kind, &mut words);
     print_words(b"field_at ", &question, &words);
 }
 
 // Of each kind, and of two that are none.
 fn show_fields(p: &[u8], entry: usize, asked: usize) {
-    let mut kind: u8 = 0;
+    let mut kind = 0;
     while kind < 11 {
         show_field(p, entry, asked, kind);
         kind += 1;

@@ -70,7 +70,7 @@ extern "C" {
         entry: usize,
         record: usize,
         offset: usize,
-        kind: u8,
+        kind: usize,
         words: *mut u64,
         words_length: usize,
     ) -> u32;
@@ -143,7 +143,7 @@ pub fn field_at(
     entry: usize,
     record: usize,
     offset: usize,
-    kind: u8,
+    kind: usize,
     words: &mut [u64],
 ) -> u32 {
     let (start, length, room) = (product.as_ptr(), product.len(), words.as_mut_ptr());

@@ -79,7 +79,7 @@ impl Comparer {
     ) {
         self.compare(product, Call::RecordPlace { entry, record });
         self.compare(product, Call::RecordPart { entry, record });
-        let (offset, kind) = (choices.index(20), choices.index(12) as u8);
+        let (offset, kind) = (choices.index(20), choices.index(12));
         self.compare(product, Call::FieldAt { entry, record, offset, kind });
         self.compare(product, Call::PointAt { entry, record, offsets: [0, 4, 8] });
     }
@@ -100,7 +100,7 @@ impl Comparer {
             let offsets = [0; 3].map(|_| choices.index(room + 1));
             self.compare(product, Call::PointAt { entry, record, offsets });
         } else {
-            let (offset, kind) = (choices.index(length + 2), choices.index(11) as u8);
+            let (offset, kind) = (choices.index(length + 2), choices.index(11));
             self.compare(product, Call::FieldAt { entry, record, offset, kind });
         }
         part.bytes

@@ -105,6 +105,20 @@ fn fields_are_refused_in_order() {
 }
 
 #[test]
+fn a_kind_is_the_whole_number_asked() {
+    let product = one_record(&[0xa5; 20]);
+    for known in 1..=9 {
+        assert!(field(&product, 0, 0, 0, known).is_ok(), "{known}");
+        for bits in [4, 8, 16, 32, 63] {
+            for kind in [(1 << bits) + known, (u64::MAX << bits) + known] {
+                let refused = field(&product, 0, 0, 0, kind).unwrap_err();
+                assert_eq!(refused, refusal(19, 0, 0), "{kind}");
+            }
+        }
+    }
+}
+
+#[test]
 fn fields_end_with_their_record() {
     let product = named_product("case-b").unwrap();
     let widths = [1, 1, 2, 2, 4, 4, 4, 8, 12];

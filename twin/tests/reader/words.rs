@@ -53,6 +53,15 @@ fn answers_have_their_lengths_accepted_or_refused() {
     }
 }
 
+#[test]
+fn a_kind_beyond_a_byte_is_unknown() {
+    let product = named_product("case-b").unwrap();
+    for kind in [256 + 5, (1 << 16) + 5, (1 << 32) + 5, usize::MAX] {
+        let call = Call::FieldAt { entry: 0, record: 0, offset: 0, kind };
+        assert_eq!(call.answer(&product).words, [19, 0, 0, 0, 0, 0, 0], "{kind}");
+    }
+}
+
 /// Every number of the main header is another one, so that no two can be exchanged.
 #[test]
 fn header_values_stand_in_the_order_of_their_lines() {

@@ -1,78 +1,132 @@
--- `points::point_in` meets its contract: 20 of the three offsets in their order, then what `point_at` answers. Assumes nothing.
-use mathlib.Core.Path.{sym, _∙_}
+-- `points::point_in` meets its contract: the first refusal of the five checks in their order, or the point. Assumes nothing.
+use mathlib.Core.Path.{_∙_}
+use Rattle.layout.specs.Answers.{pointAnswerIs}
+use Rattle.points.proofs.Points.{accepts, refuses, all-there, past-latitude, past-longitude, past-altitude, latitude-out, longitude-out, found}
 use borrow.Author.Needs.{needs}
-use borrow.Author.Tests.{leb-true, not-true, not-false}
-use Rattle.points.proofs.Points.{past-latitude, past-longitude, past-altitude}
 use Rattle.points.proofs.point_in.Statement.{statement}
 use Rattle.points.proofs.point_in.Tie as tie
 
-ends-in-requires : tie.Need-ends-in-requires
-ends-in-requires c κs = search needs
+check-end-requires : tie.Need-check-end-requires
+check-end-requires c κs = search needs
 
-refused-point-requires : tie.Need-refused-point-requires
-refused-point-requires c κs = search needs
+enum-known-refusal : tie.Need-enum-known-refusal
+enum-known-refusal c = search needs
 
 returns : tie.Need-returns
-returns c =
-    let p = c .before .before in
-    let a = p .before .before .args in
-    c .refused-point .ensures
-    ∙ past-latitude (a .bytes .now) (a .entry) (a .latitude) (a .longitude) (a .altitude) (sym (p .ends-in .ensures) ∙ not-true _ (c .before .if1 .taken))
+unfolding pointAnswerIs
+returns c = search (past-latitude, refuses)
 
-ends-in-requires-2 : tie.Need-ends-in-requires-2
-ends-in-requires-2 c κs = search needs
+enum-told : tie.Need-enum-told
+enum-told c = search needs
 
-refused-point-requires-2 : tie.Need-refused-point-requires-2
-refused-point-requires-2 c κs = search needs
+check-end-requires-2 : tie.Need-check-end-requires-2
+check-end-requires-2 c κs = search needs
+
+enum-known-refusal-2 : tie.Need-enum-known-refusal-2
+enum-known-refusal-2 c = search needs
 
 returns-2 : tie.Need-returns-2
-returns-2 c =
-    let q = c .before .before in
-    let p = q .before .before in
-    let a = p .before .before .args in
-    c .refused-point2 .ensures
-    ∙ past-longitude (a .bytes .now) (a .entry) (a .latitude) (a .longitude) (a .altitude) (sym (p .ends-in .ensures) ∙ not-false _ (q .before .if1 .left)) (sym (q .ends-in2 .ensures) ∙ not-true _ (c .before .if2 .taken))
+unfolding pointAnswerIs
+returns-2 c = search (past-longitude, accepts, refuses)
 
-ends-in-requires-3 : tie.Need-ends-in-requires-3
-ends-in-requires-3 c κs = search needs
+enum-told-2 : tie.Need-enum-told-2
+enum-told-2 c = search needs
 
-refused-point-requires-3 : tie.Need-refused-point-requires-3
-refused-point-requires-3 c κs = search needs
+check-end-requires-3 : tie.Need-check-end-requires-3
+check-end-requires-3 c κs = search needs
+
+enum-known-refusal-3 : tie.Need-enum-known-refusal-3
+enum-known-refusal-3 c = search needs
 
 returns-3 : tie.Need-returns-3
-returns-3 c =
-    let r = c .before .before in
-    let q = r .before .before in
-    let p = q .before .before in
-    let a = p .before .before .args in
-    c .refused-point3 .ensures
-    ∙ past-altitude (a .bytes .now) (a .entry) (a .latitude) (a .longitude) (a .altitude) (sym (p .ends-in .ensures) ∙ not-false _ (q .before .if1 .left)) (sym (q .ends-in2 .ensures) ∙ not-false _ (r .before .if2 .left)) (sym (r .ends-in3 .ensures) ∙ not-true _ (c .before .if3 .taken))
+unfolding pointAnswerIs
+returns-3 c = search (past-altitude, accepts, refuses)
+
+enum-told-3 : tie.Need-enum-told-3
+enum-told-3 c = search needs
+
+-- `lat`, `lon`, `alt`, `north`, `east` below: where the checks of the three ends and of the two limits have come out well
+check-limit-requires : tie.Need-check-limit-requires
+check-limit-requires c κs =
+    let lon = c .before .before .before in
+    let lat = lon .before .before .before in
+    all-there _ _ _ _ (lat .before .before .check-end .ensures) (lat .enum-told .given .1)
+
+enum-known-refusal-4 : tie.Need-enum-known-refusal-4
+enum-known-refusal-4 c = search needs
+
+returns-4 : tie.Need-returns-4
+unfolding pointAnswerIs
+returns-4 c = search (latitude-out, accepts, refuses)
+
+enum-told-4 : tie.Need-enum-told-4
+enum-told-4 c = search needs
+
+check-limit-requires-2 : tie.Need-check-limit-requires-2
+check-limit-requires-2 c κs =
+    let alt = c .before .before .before in
+    let lon = alt .before .before .before in
+    all-there _ _ _ _ (lon .before .before .check-end2 .ensures) (lon .enum-told2 .given .1)
+
+enum-known-refusal-5 : tie.Need-enum-known-refusal-5
+enum-known-refusal-5 c = search needs
+
+returns-5 : tie.Need-returns-5
+unfolding pointAnswerIs
+returns-5 c = search (longitude-out, accepts, refuses)
+
+enum-told-5 : tie.Need-enum-told-5
+enum-told-5 c = search needs
 
 point-at-requires : tie.Need-point-at-requires
 point-at-requires c κs =
-    let r = c .before in
-    let q = r .before .before in
-    let p = q .before .before in (
-      leb-true _ _ (sym (p .ends-in .ensures) ∙ not-false _ (q .before .if1 .left)),
-      leb-true _ _ (sym (q .ends-in2 .ensures) ∙ not-false _ (r .before .if2 .left)),
-      leb-true _ _ (sym (r .ends-in3 .ensures) ∙ not-false _ (c .if3 .left)),
+    let north = c .before .before .before in
+    let alt = north .before .before .before in
+    let lon = alt .before .before .before in
+    let lat = lon .before .before .before in (
+      all-there _ _ _ _ (lat .before .before .check-end .ensures) (lat .enum-told .given .1),
+      all-there _ _ _ _ (lon .before .before .check-end2 .ensures) (lon .enum-told2 .given .1),
+      all-there _ _ _ _ (alt .before .before .check-end3 .ensures) (alt .enum-told3 .given .1),
     )
 
-returns-4 : tie.Need-returns-4
-returns-4 c = search needs
+returns-6 : tie.Need-returns-6
+returns-6 c =
+    let east = c .before in
+    let north = east .before .before .before in
+    let alt = north .before .before .before in
+    let lon = alt .before .before .before in
+    let lat = lon .before .before .before in
+    c .point-at .ensures
+    ∙ found _ _ _ _ _
+    (accepts _ _ (lat .before .before .check-end .ensures) (lat .enum-told .given .1))
+    (accepts _ _ (lon .before .before .check-end2 .ensures) (lon .enum-told2 .given .1))
+    (accepts _ _ (alt .before .before .check-end3 .ensures) (alt .enum-told3 .given .1))
+    (accepts _ _ (north .before .before .check-limit .ensures) (north .enum-told4 .given .1))
+    (accepts _ _ (east .before .before .check-limit2 .ensures) (east .enum-told5 .given .1))
 
 pub point-in-spec : {M : Type 1} → statement M
 point-in-spec =
     tie.close
     (tie.spec
-    ends-in-requires
-    refused-point-requires
+    check-end-requires
+    enum-known-refusal
     returns
-    ends-in-requires-2
-    refused-point-requires-2
+    enum-told
+    check-end-requires-2
+    enum-known-refusal-2
     returns-2
-    ends-in-requires-3
-    refused-point-requires-3
+    enum-told-2
+    check-end-requires-3
+    enum-known-refusal-3
     returns-3
+    enum-told-3
+    check-limit-requires
+    enum-known-refusal-4
+    returns-4
+    enum-told-4
+    check-limit-requires-2
+    enum-known-refusal-5
+    returns-5
+    enum-told-5
     point-at-requires
-    returns-4)
+    returns-6)

@@ -1,7 +1,9 @@
 -- `product::sph_place` meets its contract.
 -- Assumes nothing.
-use mathlib.Core.Path.{sym}
+use Prim.Native.Nat.{ℕ}
+use mathlib.Core.Path.{sym, ap, _∙_}
 use native.Mathlib.Omega.{arith}
+use Rattle.layout.specs.Answer.{is}
 use Rattle.layout.specs.Answers.{placeIs}
 use Rattle.layout.specs.Records.{sphPlace}
 use Rattle.product.proofs.Calls.{is-refused, is-accepted, now-headers, lines-are}
@@ -33,7 +35,10 @@ sub-lines-2 c = let h = now-headers _ _ (c .before .before .before .before .befo
 
 returns-2 : tie.Need-returns-2
 unfolding placeIs sphPlace
-returns-2 c = sym (rw (is-accepted _ _ (c .before .before .before .before .before .open-product .ensures) (c .before .before .before .enum-told .given .1), lines-are _ _ (c .before .before .before .before .before .open-product .ensures) (is-accepted _ _ (c .before .before .before .before .before .open-product .ensures) (c .before .before .before .enum-told .given .1))))
+returns-2 c =
+    let o = c .before .before .before .before .before .open-product .ensures in
+    let a = is-accepted _ _ o (c .before .before .before .enum-told .given .1) in
+    ap (λ (n : ℕ). is (record { place = 1247; length = n })) (lines-are _ _ o a) ∙ sym (rw a)
 
 pub sph-place-spec : {M : Type 1} → statement M
 sph-place-spec =

@@ -7,7 +7,8 @@ use twin::words::Call;
 use crate::common::one_record;
 
 /// Every kind there is, and kinds that are unknown.
-const KINDS: [u8; 15] = [0, 1, 2, 3, 4, 5, 6, 7, 8, 9, 10, 11, 127, 128, 255];
+const KINDS: [usize; 18] =
+    [0, 1, 2, 3, 4, 5, 6, 7, 8, 9, 10, 11, 127, 128, 255, 256 + 5, (1 << 32) + 5, usize::MAX];
 
 /// The first four bytes of floats and numbers that are special.
 const HIGH_HALVES: [u32; 16] = [
@@ -48,6 +49,22 @@ fn extreme_bits_are_kept_in_every_kind() {
                 for kind in KINDS {
                     comparer.compare(&product, Call::FieldAt { entry: 0, record: 0, offset, kind });
                 }
+            }
+        }
+    }
+}
+
+/// A kind is the whole number asked: one whose lowest bits are a kind's is none.
+#[test]
+fn kinds_are_not_cut_to_fewer_bits() {
+    let product = one_record(vec![0xa5; 20]);
+    let mut comparer = Comparer::of("a record of twenty bytes");
+    for known in 0..=10 {
+        for bits in [4, 5, 7, 8, 15, 16, 31, 32, 33, 62, 63] {
+            for kind in [(1 << bits) + known, (usize::MAX << bits) + known] {
+                let call = Call::FieldAt { entry: 0, record: 0, offset: 0, kind };
+                let answer = comparer.compare(&product, call);
+                assert_eq!(answer.words, [19, 0, 0, 0, 0, 0, 0], "kind {kind}");
             }
         }
     }
