@@ -74,6 +74,10 @@ module _ (n : Number) where
   unfolding whole
   from-one = at-least-one (n .minus) (n .magnitude)
 
+  -- a number with a minus is not at least one
+  pub minus-below : n .minus ≡ true → (rest : Bool) → false ≡ (leZ (pos 1) (whole n) && rest)
+  minus-below h rest = rw (from-one, h)
+
   pub above : ltZ (pos 0) (whole n) ≡ (not (n .minus) && ltb 0 (n .magnitude))
   unfolding whole
   above = above-zero (n .minus) (n .magnitude)

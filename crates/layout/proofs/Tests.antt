@@ -13,13 +13,13 @@ use lib.IntN.{pos, negℤ}
 use lib.ListN.{length, getD, replicate}
 use lib.Signed.{ltZ}
 use Rattle.layout.specs.Bytes.{bytes, within, member}
-use Rattle.layout.specs.Text.{Class, exactly, plain, sign, digit, among, fits, Number as HeaderNumber, whole}
+use Rattle.layout.specs.Text.{Class, exactly, plain, sign, digit, among, fits, Number, whole}
 use Rattle.layout.specs.Answer.{_⇒_}
 use Rattle.layout.specs.Search.{Some, count, find, join}
 use Rattle.layout.specs.Entries.{Entry, at, isData, isReference, called, nonEmpty, start, extent, holds, shares, kindOf, isVariable, isStates, isFixed, allZero, inRange, setFits, numbersFit}
 use Rattle.layout.specs.States.{State, stateFits, attached, stateCount, stateLengths}
 use Rattle.layout.specs.Records.{variableLengths}
-use Rattle.layout.specs.Faults.{Fits, IsData, Called, NonEmpty, Byte, OfKind, Variable, Fixed, NumbersFit, Number, IsStates, StateFits, Attached, RecordLengths}
+use Rattle.layout.specs.Faults.{Fits, IsData, Called, NonEmpty, Byte, OfKind, Variable, Fixed, NumbersFit, HowMany, IsStates, StateFits, Attached, RecordLengths}
 use Rattle.layout.proofs.Laws.{lt-or-le, either-iff, and-T, imp-T, or-T, not-T′, leb-T, eqb-T, leZ-T, ltZ-T, eqZ-T, find-at, find-before, find-bounds, count-none, count-found}
 
 ruleset tests = (and-T, imp-T, not-T′, leb-T, eqb-T, eqZ-T, leZ-T, ltZ-T)
@@ -68,7 +68,7 @@ pub holds-T : (p : ℕ) (f : Entry) → T (holds p f) ↔ Byte f p
 unfolding holds
 holds-T p f = simp (tests, nonEmpty-T) Iff·rfl
 
-positive : (n : HeaderNumber) → T (ltZ (pos 0) (whole n)) → 0 < n .magnitude
+positive : (n : Number) → T (ltZ (pos 0) (whole n)) → 0 < n .magnitude
 unfolding whole
 positive n h = go (n .minus) (n .magnitude) h
   where
@@ -228,16 +228,16 @@ count-shift t i zero = refl
 count-shift t i (suc n) = rw (count-shift t (suc i) n)
 
 module _ (P : Entry → Type 0) (t : Entry → Bool) (same : (f : Entry) → T (t f) ↔ P f) where
-  pub number-is : (ds : List Entry) → Number P ds (count (λ i. t (at ds i)) 0 (length ds))
+  pub number-is : (ds : List Entry) → HowMany P ds (count (λ i. t (at ds i)) 0 (length ds))
   unfolding count at
   number-is [] = refl
   number-is (f ∷ ds) = rw (count-shift (λ i. t (at (f ∷ ds) i)) 0 (length ds)) (go (t f) refl (number-is ds))
     where
-      go : (u : Bool) → t f ≡ u → Number P ds (count (λ i. t (at ds i)) 0 (length ds)) → Number P (f ∷ ds) (cond u 1 0 + count (λ i. t (at ds i)) 0 (length ds))
+      go : (u : Bool) → t f ≡ u → HowMany P ds (count (λ i. t (at ds i)) 0 (length ds)) → HowMany P (f ∷ ds) (cond u 1 0 + count (λ i. t (at ds i)) 0 (length ds))
       go true e below = inl (same f .0 (rw e tt), (count (λ i. t (at ds i)) 0 (length ds), (omega arith, below)))
       go false e below = inr (λ p. absurd (rw e at (same f .1 p)), rw zero-add below)
 
-pub one-number : (P : Entry → Type 0) (ds : List Entry) (m n : ℕ) → Number P ds m → Number P ds n → m ≡ n
+pub one-number : (P : Entry → Type 0) (ds : List Entry) (m n : ℕ) → HowMany P ds m → HowMany P ds n → m ≡ n
 one-number P [] m n h k = h ∙ sym k
 one-number P (f ∷ ds) m n (inl h) (inl k) = h .1 .1 .0 ∙ ap suc (one-number P ds (h .1 .0) (k .1 .0) (h .1 .1 .1) (k .1 .1 .1)) ∙ sym (k .1 .1 .0)
 one-number P (f ∷ ds) m n (inl h) (inr k) = absurd (k .0 (h .0))

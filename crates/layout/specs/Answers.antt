@@ -1,16 +1,13 @@
 -- The answers of `src/` as document 01 has them: for each case of an enum its number and values, and what the structs hold.
 -- Assumes nothing.
 use Prim.Native.Nat.{ℕ, _-_}
-use Prim.Native.String.{String}
 use mathlib.Core.List.{List, _++_, map}
 use lib.IntN.{ℤ, pos}
 use lib.ListN.{length, replicate}
-use Rattle.layout.specs.Bytes.{byteAt}
-use Rattle.layout.specs.Text.{whole, valueOf}
-use Rattle.layout.specs.Lines.{mph}
+use Rattle.layout.specs.Text.{whole}
 use Rattle.layout.specs.Answer.{Answer, accepted, refused, Reply, refusal, is}
 use Rattle.layout.specs.Search.{join}
-use Rattle.layout.specs.Entries.{Entry, headerNumber, directory, start, extent}
+use Rattle.layout.specs.Entries.{Entry, directory, start, extent}
 use Rattle.layout.specs.Records.{Span}
 use Rattle.layout.specs.Fields.{Value, integer, single, double, time, Position}
 use Rattle.layout.specs.declared.Verdict.{Verdict}

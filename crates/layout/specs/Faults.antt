@@ -140,9 +140,9 @@ NumbersFit f =
     × (pos 0 <ℤ whole (f .size) → (pos 1 ≤ℤ whole (f .count)) × (Fixed f ⊎ Variable f))))
 
 -- n of these entries are so
-abbrev pub Number : (Entry → Type 0) → List Entry → ℕ → Type 0
-Number P [] n = n ≡ 0
-Number P (f ∷ ds) n = (P f × ((m : ℕ) × ((n ≡ suc m) × Number P ds m))) ⊎ ((P f → ⊥) × Number P ds n)
+abbrev pub HowMany : (Entry → Type 0) → List Entry → ℕ → Type 0
+HowMany P [] n = n ≡ 0
+HowMany P (f ∷ ds) n = (P f × ((m : ℕ) × ((n ≡ suc m) × HowMany P ds m))) ⊎ ((P f → ⊥) × HowMany P ds n)
 
 -- ---- states
 
@@ -232,7 +232,7 @@ module _ (b : List ℕ) (n : ℕ) where
 
   -- NUM_DATA_SETS is not the number of entries of type M, A or G
   abbrev pub Fault11 : ℕ → ℕ → Type 0
-  Fault11 p e = ((m : ℕ) → Number IsData (directory b) m → whole (numDataSets b) ≡ pos m → ⊥) × At p e 1194 none
+  Fault11 p e = ((m : ℕ) → HowMany IsData (directory b) m → whole (numDataSets b) ≡ pos m → ⊥) × At p e 1194 none
 
 -- ---- the sets: a directory, where the headers end, and the length
 

@@ -9,21 +9,21 @@ use borrow.Author.Tests.{eq-eqb, ne-eqb}
 use Rattle.layout.specs.Bytes.{bytes}
 use Rattle.layout.specs.Listing.{decimal, signedDecimal, trimmed, lineOf}
 use Rattle.listed.specs.declared.Listed.{Listed}
-use Rattle.listed.specs.Line.{nameAt, valueWords, entryText}
+use Rattle.listed.specs.Line.{nameAt, entryWords, entryText}
 
 -- what is put for a word and the byte behind it
 abbrev pub word : List ℕ → List ℕ
 word w = w ++ 32 ∷ []
 
 module _ (names : List ℕ) (e : Listed) where
-  pub values-line : (z : ℤ) → z ≡ e .«record_size» → (e .«ds_type» ∷ []) ++ ((32 ∷ []) ++ (word (trimmed (nameAt names (e .number))) ++ (word (decimal (e .offset)) ++ (word (decimal (e .size)) ++ (word (decimal (e .count)) ++ (signedDecimal z ++ 10 ∷ [])))))) ≡ lineOf (valueWords names e)
-  unfolding lineOf valueWords
+  pub values-line : (z : ℤ) → z ≡ e .«record_size» → (e .«ds_type» ∷ []) ++ ((32 ∷ []) ++ (word (trimmed (nameAt names (e .number))) ++ (word (decimal (e .offset)) ++ (word (decimal (e .size)) ++ (word (decimal (e .count)) ++ (signedDecimal z ++ 10 ∷ [])))))) ≡ lineOf (entryWords names e)
+  unfolding lineOf entryWords
   values-line z h = rw h (simp append-snoc)
 
   pub spare-line : e .«ds_type» ≡ 32 → (bytes "entry" ++ 32 ∷ []) ++ (word (decimal (e .number)) ++ (bytes "spare" ++ 10 ∷ [])) ≡ entryText names e
   unfolding entryText lineOf
   spare-line h = rw (eq-eqb (e .«ds_type») 32 h) (simp append-snoc)
 
-  pub named-line : (e .«ds_type» ≡ 32 → ⊥) → (bytes "entry" ++ 32 ∷ []) ++ (word (decimal (e .number)) ++ lineOf (valueWords names e)) ≡ entryText names e
-  unfolding entryText lineOf valueWords
+  pub named-line : (e .«ds_type» ≡ 32 → ⊥) → (bytes "entry" ++ 32 ∷ []) ++ (word (decimal (e .number)) ++ lineOf (entryWords names e)) ≡ entryText names e
+  unfolding entryText lineOf entryWords
   named-line h = rw (ne-eqb (e .«ds_type») 32 h) (simp append-snoc)

@@ -13,11 +13,11 @@ unfoldable pub nameAt : List ℕ → ℕ → List ℕ
 nameAt names i = part names (28 * i) 28
 
 -- type, name without trailing blanks, offset, size, records, record size
-unfoldable pub valueWords : List ℕ → Listed → List (List ℕ)
-valueWords names e = (e .«ds_type» ∷ []) ∷ trimmed (nameAt names (e .number)) ∷ decimal (e .offset) ∷ decimal (e .size) ∷ decimal (e .count) ∷ signedDecimal (e .«record_size») ∷ []
+unfoldable pub entryWords : List ℕ → Listed → List (List ℕ)
+entryWords names e = (e .«ds_type» ∷ []) ∷ trimmed (nameAt names (e .number)) ∷ decimal (e .offset) ∷ decimal (e .size) ∷ decimal (e .count) ∷ signedDecimal (e .«record_size») ∷ []
 
 unfoldable pub entryText : List ℕ → Listed → List ℕ
 entryText names e =
     let isSpare = lineOf (bytes "entry" ∷ decimal (e .number) ∷ bytes "spare" ∷ []) in
-    let isNamed = lineOf (bytes "entry" ∷ decimal (e .number) ∷ valueWords names e) in
+    let isNamed = lineOf (bytes "entry" ∷ decimal (e .number) ∷ entryWords names e) in
     cond (eqb (e .«ds_type») 32) isSpare isNamed

@@ -10,7 +10,7 @@ ghost use Prim.Native.Nat.{_+_, _*_, _≤_, _<_};
 ghost use lib.ListN.{length};
 ghost use Rattle.layout.specs.Listing.{trimmed, lineOf};
 ghost use Rattle.writing.specs.Put.{Put};
-ghost use Rattle.listed.specs.Line.{nameAt, valueWords, entryText};
+ghost use Rattle.listed.specs.Line.{nameAt, entryWords, entryText};
 
 // What a line says of one entry, but for its name.
 pub struct Listed {
@@ -37,7 +37,7 @@ fn put_name(out: &mut [u8], at: usize, names: &[u8], entry: usize) -> usize
 // The rest of an entry's line: type, name, offset, size, records, record size.
 fn put_values(out: &mut [u8], at: usize, names: &[u8], entry: Listed) -> usize
     requires { ⌜ (at + 116 ≤ length (now out)) × ((entry .number < 128) × (length (now names) ≡ 3584)) ⌝ }
-    ensures { λ r. ⌜ Put 116 (lineOf (valueWords (now (names .entry)) entry)) (now (out .entry)) (now (out .exit)) at r ⌝ }
+    ensures { λ r. ⌜ Put 116 (lineOf (entryWords (now (names .entry)) entry)) (now (out .entry)) (now (out .exit)) at r ⌝ }
 {
     let typed = put_byte(out, at, entry.ds_type);
     let parted = put_byte(out, typed, b' ');

@@ -27,7 +27,7 @@ use Rattle.layout.specs.Faults.{NumbersFit}
 use Rattle.layout.proofs.Tests.{data-T}
 use Rattle.layout.proofs.Sound.{Sound, sound, length-directory, at-directory, last-of-four}
 use Rattle.listed.specs.declared.Listed.{Listed}
-use Rattle.listed.specs.Line.{nameAt, valueWords, entryText}
+use Rattle.listed.specs.Line.{nameAt, entryWords, entryText}
 use Rattle.lister.specs.Lines.{listedOf, entryTextAt, entryTexts, acceptedText, refusalText, listingOf, longerText}
 use Rattle.lister.proofs.Held.{text-at}
 
@@ -110,11 +110,11 @@ module _ (ds : List Entry) (i : ℕ) (l : i < length ds) (wide : (k : ℕ) → k
   line words = lineOf (bytes "entry" ∷ decimal i ∷ words)
 
   line-same : Typed (at ds i) → NumbersFit (at ds i) → entryTextAt (directoryOf ds) i ≡ entryLine ds i
-  unfolding entryTextAt entryText valueWords entryLine
+  unfolding entryTextAt entryText entryWords entryLine
   line-same typed fit = ap (entryText (directoryOf ds .names)) listed-same ∙ go (eqb (at ds i .type) 32) refl
     where
       go : (t : Bool) → eqb (at ds i .type) 32 ≡ t
-          → cond t (line (bytes "spare" ∷ [])) (line (valueWords (directoryOf ds .names) (listed (at ds i))))
+          → cond t (line (bytes "spare" ∷ [])) (line (entryWords (directoryOf ds .names) (listed (at ds i))))
           ≡ cond t (line (bytes "spare" ∷ []))
           (line ((at ds i .type ∷ []) ∷ trimmed (at ds i .name) ∷ signedDecimal (whole (at ds i .offset)) ∷ signedDecimal (whole (at ds i .size)) ∷ signedDecimal (whole (at ds i .count)) ∷ signedDecimal (whole (at ds i .recordSize)) ∷ []))
       go true x = refl

@@ -3,24 +3,13 @@ ghost use mathlib.Core.Path.{_≡_};
 ghost use Prim.Native.Nat.{_+_, _≤_};
 ghost use lib.ListN.{length};
 ghost use Rattle.layout.specs.Bytes.{signedAt};
-ghost use Rattle.layout.specs.Answer.{refused, need, is};
+ghost use Rattle.layout.specs.Answer.{need, is};
 ghost use Rattle.layout.specs.Fields.{inLimits, endsIn, positionAt, pointIn};
 ghost use Rattle.layout.specs.Answers.{verdictIs, pointAnswerIs};
 use fields::ends_in;
 use layout::Point;
 use layout::PointAnswer;
-use layout::Refusal;
 use layout::Verdict;
-
-fn refuse(number: u8, place: usize, entry: usize) -> Verdict
-    ensures { λ r. ⌜ verdictIs r ≡ refused number place entry ⌝ }
-{
-    Verdict::Refused(Refusal {
-        number,
-        place: place as u64,
-        entry,
-    })
-}
 
 // 20: the four bytes at an offset pass the record's end.
 fn check_end(bytes: &[u8], entry: usize, offset: usize) -> Verdict
@@ -29,7 +18,7 @@ fn check_end(bytes: &[u8], entry: usize, offset: usize) -> Verdict
     if ends_in(bytes.len(), offset, 4) {
         return Verdict::Accepted;
     }
-    refuse(20, offset, entry)
+    Verdict::refuse(20, offset as u64, entry)
 }
 
 // Whether an angle in 10^-6 degree lies within these limits, either way.
@@ -51,7 +40,7 @@ fn check_limit(bytes: &[u8], entry: usize, offset: usize, most: u32) -> Verdict
     if in_limits(octets::signed(bytes, offset, 4), most) {
         return Verdict::Accepted;
     }
-    refuse(21, offset, entry)
+    Verdict::refuse(21, offset as u64, entry)
 }
 
 // The point at three offsets, where all three fields end in the record.

@@ -6,7 +6,7 @@ use mathlib.Core.List.{List}
 use mathlib.Core.Path.{_≡_, sym, ap, _∙_}
 use native.Mathlib.Omega.{arith}
 use lib.ListN.{length, drop, getD, List·getD-append}
-use Rattle.rooms.specs.Lent.{holds, told, filled, OneRoom, TwoRooms}
+use Rattle.rooms.specs.Lent.{longEnough, told, filled, OneRoom, TwoRooms}
 
 -- two results that one room's promise allows are equal
 pub one-result : {A : Type 0} {answer old new other : List A} {r s : ℕ} → OneRoom answer old new r → OneRoom answer old other s → (new ≡ other) × (r ≡ s)
@@ -24,8 +24,8 @@ filled-word false answer old new q w k d l = absurd (omega arith)
 
 -- where 0 is returned, each word of the answer stands in the room
 pub room-word : {A : Type 0} (answer old new : List A) → OneRoom answer old new 0 → (k : ℕ) (d : A) → k < length answer → getD new k d ≡ getD answer k d
-room-word answer old new x = filled-word (holds old answer) answer old new (x .returned) (x .written)
+room-word answer old new x = filled-word (longEnough old answer) answer old new (x .returned) (x .written)
 
 -- and, of two rooms, in the first
 pub first-room-word : {A B : Type 0} (answer old new : List A) (answer′ old′ new′ : List B) → TwoRooms answer old new answer′ old′ new′ 0 → (k : ℕ) (d : A) → k < length answer → getD new k d ≡ getD answer k d
-first-room-word answer old new answer′ old′ new′ x = filled-word (holds old answer && holds old′ answer′) answer old new (x .returned) (x .written)
+first-room-word answer old new answer′ old′ new′ x = filled-word (longEnough old answer && longEnough old′ answer′) answer old new (x .returned) (x .written)

@@ -10,15 +10,15 @@ use lib.ListN.{length, drop}
 use lib.Seq.{sets-eq}
 use borrow.Author.Tests.{le-leb, lt-leb}
 use Rattle.writing.specs.Put.{Put}
-use Rattle.rooms.specs.Lent.{holds, told, filled, OneRoom, TwoRooms}
+use Rattle.rooms.specs.Lent.{longEnough, told, filled, OneRoom, TwoRooms}
 
 module _ {A : Type 0} (answer old : List A) where
-  enough : length answer ≤ length old → holds old answer ≡ true
-  unfolding holds
+  enough : length answer ≤ length old → longEnough old answer ≡ true
+  unfolding longEnough
   enough h = le-leb (length answer) (length old) h
 
-  short : length old < length answer → holds old answer ≡ false
-  unfolding holds
+  short : length old < length answer → longEnough old answer ≡ false
+  unfolding longEnough
   short h = lt-leb (length answer) (length old) h
 
   -- an answer put from the first place on

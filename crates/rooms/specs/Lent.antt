@@ -8,8 +8,8 @@ use lib.Dec.{leb}
 use lib.ListN.{length, drop}
 
 -- a room is long enough for an answer
-unfoldable pub holds : {A : Type 0} → List A → List A → Bool
-holds room answer = leb (length answer) (length room)
+unfoldable pub longEnough : {A : Type 0} → List A → List A → Bool
+longEnough room answer = leb (length answer) (length room)
 
 -- 0 written, 1 a room too short
 unfoldable pub told : Bool → ℕ
@@ -23,11 +23,11 @@ filled false answer room = room
 
 -- one room
 pub record OneRoom {A : Type 0} (answer old new : List A) (r : ℕ) : Type 0 where
-  pub returned : r ≡ told (holds old answer)
-  pub written : new ≡ filled (holds old answer) answer old
+  pub returned : r ≡ told (longEnough old answer)
+  pub written : new ≡ filled (longEnough old answer) answer old
 
 -- two rooms: nothing is written where either is too short
 pub record TwoRooms {A B : Type 0} (answer old new : List A) (answer′ old′ new′ : List B) (r : ℕ) : Type 0 where
-  pub returned : r ≡ told (holds old answer && holds old′ answer′)
-  pub written : new ≡ filled (holds old answer && holds old′ answer′) answer old
-  pub written′ : new′ ≡ filled (holds old answer && holds old′ answer′) answer′ old′
+  pub returned : r ≡ told (longEnough old answer && longEnough old′ answer′)
+  pub written : new ≡ filled (longEnough old answer && longEnough old′ answer′) answer old
+  pub written′ : new′ ≡ filled (longEnough old answer && longEnough old′ answer′) answer′ old′

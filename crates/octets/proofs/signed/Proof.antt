@@ -1,6 +1,6 @@
 -- `octets::signed` meets its contract: the half is 1 shifted whole, and twice it is what the bytes are below. Assumes nothing.
-use Prim.Native.Nat.{_*_, _-_, _^_, _<_}
-use mathlib.Core.Path.{ap₂, _∙_}
+use Prim.Native.Nat.{ℕ, _*_, _-_, _^_, _≤_, _<_}
+use mathlib.Core.Path.{sym, ap₂, _∙_, subst}
 use native.Mathlib.Nat.{lt-of-lt-of-le}
 use native.Mathlib.Omega.{arith}
 use borrow.Author.Needs.{needs, sfits-of}
@@ -26,7 +26,8 @@ unsigned-requires c κs = search needs
 twos-complement-requires : tie.Need-twos-complement-requires
 twos-complement-requires c κs =
     let w = c .before .before .args .width in
-    rw (half-is w (omega arith)) (half-le w (omega arith), rw (twice-half w (omega arith)) at (c .unsigned .ensures .1))
+    let e = half-is w (omega arith) in
+    (subst (λ (h : ℕ). h ≤ 2 ^ 31) (sym e) (half-le w (omega arith)), subst (λ (h : ℕ). c .unsigned .result < 2 * h) (sym e) (rw (twice-half w (omega arith)) at (c .unsigned .ensures .1)))
 
 returns : tie.Need-returns
 unfolding signedAt

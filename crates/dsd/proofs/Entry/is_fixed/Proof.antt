@@ -5,14 +5,14 @@ use mathlib.Core.Bool.{and-false}
 use native.Mathlib.Omega.{arith}
 use Rattle.layout.specs.Entries.{isFixed}
 use Rattle.dsd.specs.Held.{viewOf, numberFrom}
-use Rattle.dsd.proofs.Numbers.{from-one, no-quotient, by-quotient}
+use Rattle.dsd.proofs.Numbers.{from-one, minus-below, no-quotient, by-quotient}
 use borrow.Author.Needs.{needs}
 use Rattle.dsd.proofs.Entry.is_fixed.Statement.{statement}
 use Rattle.dsd.proofs.Entry.is_fixed.Tie as tie
 
 returns : tie.Need-returns
 unfolding isFixed viewOf numberFrom
-returns c = rw (from-one (numberFrom (c .before .args .self .«record_size»)), c .if1 .taken)
+returns c = minus-below (numberFrom (c .before .args .self .«record_size»)) (c .if1 .taken) _
 
 returns-2 : tie.Need-returns-2
 unfolding isFixed viewOf numberFrom
