@@ -309,12 +309,12 @@ fn literal_blocks(p: &[u8], template: &[u8], from: usize, to: usize) -> usize
     i
 }
 
-// The first byte of a span that is not as laid out, or its end.
-fn literal_span(p: &[u8], template: &[u8], from: usize, to: usize) -> usize
+// The first byte of a span that is not as laid out, or its end: byte by byte.
+fn literal_bytes(p: &[u8], template: &[u8], from: usize, to: usize) -> usize
     requires { ⌜ (from ≤ to) × (to ≤ length (now template)) × (to ≤ length (now p)) ⌝ }
     ensures { λ r. ⌜ r ≡ badPlace (literal (part (now (template .entry)) from (to - from))) (now (p .entry)) from ⌝ }
 {
-    let mut i = literal_blocks(p, template, from, to);
+    let mut i = from;
     while i < to {
         if p[i] != template[i] {
             return i;
@@ -322,6 +322,15 @@ fn literal_span(p: &[u8], template: &[u8], from: usize, to: usize) -> usize
         i += 1;
     }
     to
+}
+
+// The same, by blocks first.
+fn literal_span(p: &[u8], template: &[u8], from: usize, to: usize) -> usize
+    requires { ⌜ (from ≤ to) × (to ≤ length (now template)) × (to ≤ length (now p)) ⌝ }
+    ensures { λ r. ⌜ r ≡ badPlace (literal (part (now (template .entry)) from (to - from))) (now (p .entry)) from ⌝ }
+{
+    let start = literal_blocks(p, template, from, to);
+    literal_bytes(p, template, start, to)
 }
 
 // A spare line: so many blanks and byte 10.
@@ -433,7 +442,7 @@ fn row_at(starts: &[u16], keys: &[u8], kinds: &[u8], widths: &[u8], i: usize) ->
     }
 }
 
-// The lines of a table, in the header `p`: row by row, and the literal bytes behind the last value.
+// The lines of a table, in the header `p`: row by row, and the literal bytes behind the last value, which are few: in both tables one byte 10.
 fn lines_check(
     p: &[u8],
     template: &[u8],
@@ -457,7 +466,7 @@ fn lines_check(
         from = end;
         i += 1;
     }
-    literal_span(p, template, from, template.len())
+    literal_bytes(p, template, from, template.len())
 }
 
 // The first byte of the main header that is not as laid out, or its end.
