@@ -35,7 +35,8 @@ pub same-part : (b c : List ℕ) (m at w : ℕ) → take m b ≡ take m c → at
 unfolding part
 same-part b c m at w e h = sym (part-of-take w at m b h) ∙ ap (λ (l : List ℕ). take w (drop at l)) e ∙ part-of-take w at m c h
 
-map-upto-same : {A : Type 0} (f g : ℕ → A) (i n : ℕ) → ((k : ℕ) → i ≤ k → k < i + n → f k ≡ g k) → map f (upto i n) ≡ map g (upto i n)
+-- the same at each of the numbers in a row
+pub map-upto-same : {A : Type 0} (f g : ℕ → A) (i n : ℕ) → ((k : ℕ) → i ≤ k → k < i + n → f k ≡ g k) → map f (upto i n) ≡ map g (upto i n)
 map-upto-same f g i zero h = refl
 map-upto-same f g i (suc n) h = rw (h i (omega arith) (omega arith), map-upto-same f g (suc i) n (λ k l u. h k (omega arith) (omega arith)))
 

@@ -1,29 +1,23 @@
 -- The lines of document 01 begin at the bytes that it prints, and end at 1,247 and 280.
 -- Assumes nothing.
-use Prim.Native.Nat.{ℕ, _+_}
-use mathlib.Core.List.{List, [], _∷_}
+use mathlib.Core.List.{[], _∷_}
 use mathlib.Core.Path.{_≡_, refl}
 use lib.ListN.{length}
-use Rattle.layout.specs.Text.{Line, lineClasses, valueClasses, layout}
+use Rattle.layout.specs.Text.{lineClasses, valueClasses, layout, startsOf}
 use Rattle.layout.specs.Lines.{mph, dsd, spareDsd}
 
--- where each of these lines begins, and where the last one ends
-abbrev starts : ℕ → List Line → List ℕ
-starts at [] = at ∷ []
-starts at (l ∷ ls) = at ∷ starts (at + length (lineClasses l)) ls
-
 pub mph-starts :
-    starts 0 mph
-    ≡ 0 ∷ 73 ∷ 86 ∷ 120 ∷ 161 ∷ 204 ∷ 225 ∷ 265 ∷ 295 ∷ 336 ∷ 380 ∷ 423 ∷ 464 ∷ 472 ∷ 483 ∷ 500 ∷ 517 ∷ 565 ∷ 587 ∷ 614 ∷ 641 ∷ 668 ∷ 697 ∷ 726 ∷ 755 ∷ 774 ∷ 815 ∷ 858 ∷ 886 ∷ 913 ∷ 946 ∷ 985 ∷ 1000 ∷ 1011 ∷ 1052 ∷ 1066 ∷ 1104 ∷ 1132 ∷ 1152 ∷ 1180 ∷ 1206 ∷ 1247 ∷ []
-unfolding mph lineClasses valueClasses
+    startsOf 0 mph
+    ≡ 0 ∷ 73 ∷ 86 ∷ 120 ∷ 161 ∷ 204 ∷ 225 ∷ 265 ∷ 295 ∷ 336 ∷ 380 ∷ 423 ∷ 464 ∷ 472 ∷ 483 ∷ 500 ∷ 517 ∷ 565 ∷ 587 ∷ 614 ∷ 641 ∷ 668 ∷ 697 ∷ 726 ∷ 755 ∷ 774 ∷ 815 ∷ 858 ∷ 886 ∷ 913 ∷ 946 ∷ 985 ∷ 1000 ∷ 1011 ∷ 1052 ∷ 1066 ∷ 1104 ∷ 1132 ∷ 1152 ∷ 1180 ∷ 1206 ∷ []
+unfolding startsOf mph lineClasses valueClasses
 mph-starts = refl
 
-pub dsd-starts : starts 0 dsd ≡ 0 ∷ 39 ∷ 49 ∷ 123 ∷ 162 ∷ 199 ∷ 219 ∷ 247 ∷ 280 ∷ []
-unfolding dsd lineClasses valueClasses
+pub dsd-starts : startsOf 0 dsd ≡ 0 ∷ 39 ∷ 49 ∷ 123 ∷ 162 ∷ 199 ∷ 219 ∷ 247 ∷ []
+unfolding startsOf dsd lineClasses valueClasses
 dsd-starts = refl
 
-pub spare-starts : starts 0 spareDsd ≡ 0 ∷ 280 ∷ []
-unfolding spareDsd lineClasses
+pub spare-starts : startsOf 0 spareDsd ≡ 0 ∷ []
+unfolding startsOf spareDsd lineClasses
 spare-starts = refl
 
 pub mph-length : length (layout mph) ≡ 1247

@@ -60,6 +60,11 @@ unfoldable pub layout : List Line → List Class
 layout [] = []
 layout (l ∷ ls) = lineClasses l ++ layout ls
 
+-- where each of these lines begins, the first at a place
+unfoldable pub startsOf : ℕ → List Line → List ℕ
+startsOf at [] = []
+startsOf at (l ∷ ls) = at ∷ startsOf (at + length (lineClasses l)) ls
+
 -- ---- where a value stands
 
 -- the bytes that a value answers: of q those between the quotes, of a number the sign too

@@ -8,7 +8,7 @@ use mathlib.Core.Path.{_≡_}
 use lib.Dec.{leb, eqb}
 use lib.ListN.{length, getD, replicate}
 use Rattle.layout.specs.Bytes.{bytes, part, byteAt}
-use Rattle.layout.specs.Text.{Class, exactly, plain, among, fits, Line, named, spare, s, sAB, literal, valueClasses, lineClasses, layout, valueWidth}
+use Rattle.layout.specs.Text.{Class, exactly, plain, among, fits, Line, named, spare, s, sAB, literal, valueClasses, layout, valueWidth, startsOf}
 use Rattle.lines.specs.declared.Row.{Row}
 
 -- the first place from p on whose byte is not of its class; the place behind the classes where each is
@@ -76,11 +76,6 @@ tableFits t starts keys kinds widths =
     && (eqb (length keys) (length kinds) && (eqb (length widths) (length kinds) && rowsFit (length t) (rowOf starts keys kinds widths) 0 0 (length kinds)))
 
 -- ---- a table of lines of document 01
-
--- where each of these lines begins
-unfoldable pub startsOf : ℕ → List Line → List ℕ
-startsOf at [] = []
-startsOf at (l ∷ ls) = at ∷ startsOf (at + length (lineClasses l)) ls
 
 -- the bytes of a line's value; of a spare, its blanks
 unfoldable pub widthIn : Line → ℕ

@@ -1,7 +1,7 @@
 -- Theorems over the calls' promises: two results that a promise allows are equal; the records handed out, in file order behind the headers, are the
 -- product; a part is empty exactly where its place is refused or has no byte.
 -- Assumes nothing.
-use Prim.Native.Nat.{ℕ, zero, suc, _+_, _-_, _^_, _≤_, _<_}
+use Prim.Native.Nat.{ℕ, _+_, _-_, _^_, _≤_, _<_}
 use mathlib.Core.Bool.{Bool, true, false, cond}
 use mathlib.Core.List.{List, [], _∷_, _++_, map}
 use mathlib.Core.Logic.{_↔_, _⊎_, inl, inr}
@@ -28,6 +28,7 @@ use Rattle.layout.specs.declared.FieldAnswer.{FieldAnswer}
 use Rattle.layout.specs.declared.PointAnswer.{PointAnswer}
 use Rattle.layout.specs.declared.DirectoryAnswer.{DirectoryAnswer}
 use Rattle.values.specs.declared.HeaderAnswer.{HeaderAnswer}
+use Rattle.layout.proofs.Agree.{map-upto-same}
 use Rattle.layout.proofs.Maps.{one-verdict, one-place, one-field-answer, one-point-answer}
 use Rattle.layout.proofs.Tests.{variable-T}
 use Rattle.layout.proofs.Sound.{length-directory, count-sound, both-accept, accepted-entries, sound}
@@ -120,17 +121,13 @@ module _ (b : List ℕ) where
           promise i j (omega (arith, length-directory b, accepted-entries b accepts)) (omega (arith, few i l))
           ∙ rw (accepts, lt-ltb i (length ds) l, lt-ltb j (length (lengths (statesOf b ds) (at ds i))) h)
 
-      upto-same : (f g : ℕ → List ℕ) (n i : ℕ) → ((j : ℕ) → j < i + n → f j ≡ g j) → map f (upto i n) ≡ map g (upto i n)
-      upto-same f g zero i h = refl
-      upto-same f g (suc n) i h = rw (h i (omega arith), upto-same f g n (suc i) (λ j l. h j (omega arith)))
-
       -- the records of entry i, each by a call
       abbrev recordsBy : ℕ → List (List ℕ)
       recordsBy i = map (call i) (upto 0 (length (lengths (statesOf b ds) (at ds i))))
 
       of-entry : (i : ℕ) → i < length ds → recordsBy i ≡ recordsAt b (statesOf b ds) ds i
       unfolding recordsAt records
-      of-entry i l = upto-same (call i) (recordPart b (statesOf b ds) (at ds i)) (length (lengths (statesOf b ds) (at ds i))) 0 (λ j h. handed i l j (omega arith))
+      of-entry i l = map-upto-same (call i) (recordPart b (statesOf b ds) (at ds i)) 0 (length (lengths (statesOf b ds) (at ds i))) (λ j g h. handed i l j (omega arith))
 
       map-all : (xs : List ℕ) → All (λ i. (i < length ds) × NonEmpty (at ds i)) xs → map recordsBy xs ≡ map (recordsAt b (statesOf b ds) ds) xs
       map-all [] h = refl

@@ -21,7 +21,7 @@ use Rattle.layout.specs.States.{State, Tally, isStatesAt, statesEntry, stateAt,
 use Rattle.layout.specs.Rules.{stateRules, isVariableAt, statesFit, rule15, rule16, rule16At}
 use Rattle.layout.proofs.Laws.{lt-or-le, and-T, find-at, find-bounds, find-before, first-accepts-0}
 use Rattle.layout.specs.Faults.{NonEmpty, Fixed, Variable, NumbersFit}
-use Rattle.layout.proofs.Tests.{data-T, nonEmpty-T, variable-T}
+use Rattle.layout.proofs.Tests.{is-true, data-T, nonEmpty-T, variable-T}
 use Rattle.layout.proofs.Sound.{length-directory, rule2-sound, rule10-sound, rule12-sound, rule8-sound, entries-sound, count-sound, no-count}
 use Rattle.states.specs.States.{cap, capped, statesFrom, tallyIs}
 use Rattle.states.proofs.Laws.{states-of}
@@ -52,10 +52,6 @@ at-least-whole n h = go (n .minus) (n .magnitude) (h .le)
 
 pub at-least : (n : Number) → pos 1 ≤ℤ whole n → 1 ≤ n .magnitude
 at-least n h = leb→le 1 (n .magnitude) (rw (at-least-whole n h) at (h .le))
-
-pub is-true : (t : Bool) → T t → t ≡ true
-is-true true h = refl
-is-true false h = absurd h
 
 pub data-filled : (e : Entry) → NumbersFit e → T (isData e) → nonEmpty e ≡ ltb 0 (extent e)
 unfolding nonEmpty extent

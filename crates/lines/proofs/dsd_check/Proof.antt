@@ -4,9 +4,9 @@ use mathlib.Core.Path.{refl}
 use native.Mathlib.Omega.{arith}
 use borrow.Author.Needs.{needs}
 use Rattle.layout.specs.Bytes.{part}
-use Rattle.layout.specs.Text.{layout, lineClasses, valueClasses, valueWidth}
+use Rattle.layout.specs.Text.{layout, lineClasses, valueClasses, valueWidth, startsOf}
 use Rattle.layout.specs.Lines.{dsd, spareDsd}
-use Rattle.lines.specs.Table.{tableLaid, rowsLaid, rowLaid, valueLaid, rowOf, tableFits, rowsFit, rowFits, widthFits, startsOf, widthIn}
+use Rattle.lines.specs.Table.{tableLaid, rowsLaid, rowLaid, valueLaid, rowOf, tableFits, rowsFit, rowFits, widthFits, widthIn}
 use Rattle.lines.proofs.Headers.{dsd-answer, spare-lines, dsd-lines, dsd-long, dsd-inside, dsd-place}
 use Rattle.lines.proofs.dsd_check.Statement.{statement}
 use Rattle.lines.proofs.dsd_check.Tie as tie

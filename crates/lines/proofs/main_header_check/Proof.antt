@@ -3,9 +3,9 @@
 use mathlib.Core.Path.{refl}
 use borrow.Author.Needs.{needs}
 use Rattle.layout.specs.Bytes.{part}
-use Rattle.layout.specs.Text.{layout, lineClasses, valueClasses, valueWidth}
+use Rattle.layout.specs.Text.{layout, lineClasses, valueClasses, valueWidth, startsOf}
 use Rattle.layout.specs.Lines.{sizeOfMph, mph}
-use Rattle.lines.specs.Table.{tableLaid, rowsLaid, rowLaid, valueLaid, rowOf, tableFits, rowsFit, rowFits, widthFits, startsOf, widthIn}
+use Rattle.lines.specs.Table.{tableLaid, rowsLaid, rowLaid, valueLaid, rowOf, tableFits, rowsFit, rowFits, widthFits, widthIn}
 use Rattle.lines.proofs.Headers.{header-answer}
 use Rattle.lines.proofs.main_header_check.Statement.{statement}
 use Rattle.lines.proofs.main_header_check.Tie as tie
