@@ -12,7 +12,7 @@ use Rattle.layout.specs.Text.{fits, valueClasses, lineClasses, layout, valueWid
 use Rattle.layout.specs.Lines.{mph, dsd, spareDsd}
 use Rattle.layout.specs.Answer.{Answer, accepted, refused, Reply, refusal, is}
 use Rattle.layout.specs.Search.{first, some, count, find, sum, laidOut}
-use Rattle.layout.specs.Entries.{headerNumber, totSize, sphSize, numDsd, dsdSize, numDataSets, headersEnd, entries, dsdAt, dsdBytes, entryOf, entryAt, directory, at, isData, isReference, called, nonEmpty, start, extent, holds, shares, kindOf, isVariable, isStates, isFixed, allZero, inRange, setFits, numbersFit}
+use Rattle.layout.specs.Entries.{headerNumber, totSize, sphSize, numDsd, dsdSize, numDataSets, headersEnd, entries, dsdsAt, dsdAt, dsdBytes, entryOf, entryFrom, entriesFrom, entryAt, directory, at, isData, isReference, called, nonEmpty, start, extent, holds, shares, kindOf, isVariable, isStates, isFixed, allZero, inRange, setFits, numbersFit}
 use Rattle.layout.specs.Sph.{sphLines, ended, blanks, unquoted, quoted, value, keyword, line, lineBegins}
 use Rattle.layout.specs.States.{stateOf, stateFits, attached, stateCount, stateLengths, stateBytes, isStatesAt, statesEntry, stateAt, stateIn, statesAt, statesOf, firstBad, countOfKind, totalOfKind, tallyOf, ofKind}
 use Rattle.layout.specs.Rules.{rule1, rule2, rule3, rule4, rule5, sphFits, dsdsFit, rule6, rule7At, rule7, linesOf, rule8At, rule8, rule9At, rule9, rule10At, rule10, isDataAt, dataSets, rule11, setInside, rule12At, rule12, sharesAt, rule13At, rule13, holdsAt, rule14At, rule14, isVariableAt, statesFit, rule15, isFilled, rule16At, rule16, rules1to6, rules7to14, headerRules, stateRules, verdictFrom, verdict}
@@ -100,7 +100,7 @@ table =
 
 -- cases A to L
 cases-A-to-L : map (λ k. answer (k .product) (k .ask)) table ≡ map (λ k. k .want) table
-unfolding table answer part byteAt unsignedAt twosComplement signedAt fits valueClasses lineClasses layout valueWidth quoteWidth placeOf widthOf valueOf digits numberOf whole mph dsd spareDsd first some count find sum laidOut headerNumber totSize sphSize numDsd dsdSize numDataSets headersEnd entries dsdAt dsdBytes entryOf entryAt directory at isData isReference called nonEmpty start extent holds shares kindOf isVariable isStates isFixed allZero inRange setFits numbersFit sphLines ended blanks unquoted quoted value keyword line lineBegins stateOf stateFits attached stateCount stateLengths stateBytes isStatesAt statesEntry stateAt stateIn statesAt statesOf firstBad countOfKind totalOfKind tallyOf ofKind rule1 rule2 rule3 rule4 rule5 sphFits dsdsFit rule6 rule7At rule7 linesOf rule8At rule8 rule9At rule9 rule10At rule10 isDataAt dataSets rule11 setInside rule12At rule12 sharesAt rule13At rule13 holdsAt rule14At rule14 isVariableAt statesFit rule15 isFilled rule16At rule16 rules1to6 rules7to14 headerRules stateRules verdictFrom verdict variableLengths lengths recordAt recordLength recordPart recordRefusal recordPlace shapeOf bytesOf valueAt recordOf endsIn fieldRefusal fieldIn fieldReply quotient degrees metres inLimits positionAt pointRefusal pointIn pointReply ofInt ofBits div digitsBefore decimal signedDecimal putBefore trimmed lineOf entryLine acceptedLines listingFor listing
+unfolding table answer part byteAt unsignedAt twosComplement signedAt fits valueClasses lineClasses layout valueWidth quoteWidth placeOf widthOf valueOf digits numberOf whole mph dsd spareDsd first some count find sum laidOut headerNumber totSize sphSize numDsd dsdSize numDataSets headersEnd entries dsdsAt dsdAt dsdBytes entryOf entryFrom entriesFrom entryAt directory at isData isReference called nonEmpty start extent holds shares kindOf isVariable isStates isFixed allZero inRange setFits numbersFit sphLines ended blanks unquoted quoted value keyword line lineBegins stateOf stateFits attached stateCount stateLengths stateBytes isStatesAt statesEntry stateAt stateIn statesAt statesOf firstBad countOfKind totalOfKind tallyOf ofKind rule1 rule2 rule3 rule4 rule5 sphFits dsdsFit rule6 rule7At rule7 linesOf rule8At rule8 rule9At rule9 rule10At rule10 isDataAt dataSets rule11 setInside rule12At rule12 sharesAt rule13At rule13 holdsAt rule14At rule14 isVariableAt statesFit rule15 isFilled rule16At rule16 rules1to6 rules7to14 headerRules stateRules verdictFrom verdict variableLengths lengths recordAt recordLength recordPart recordRefusal recordPlace shapeOf bytesOf valueAt recordOf endsIn fieldRefusal fieldIn fieldReply quotient degrees metres inLimits positionAt pointRefusal pointIn pointReply ofInt ofBits div digitsBefore decimal signedDecimal putBefore trimmed lineOf entryLine acceptedLines listingFor listing
 cases-A-to-L = refl
 
 -- ---- beyond A to L: states, unequal records, spares, SPH lines, the listing
@@ -141,7 +141,7 @@ others =
     ∷ []
 
 other-cases : map (λ k. answer (k .product) (k .ask)) others ≡ map (λ k. k .want) others
-unfolding others answer part byteAt unsignedAt twosComplement signedAt fits valueClasses lineClasses layout valueWidth quoteWidth placeOf widthOf valueOf digits numberOf whole mph dsd spareDsd first some count find sum laidOut headerNumber totSize sphSize numDsd dsdSize numDataSets headersEnd entries dsdAt dsdBytes entryOf entryAt directory at isData isReference called nonEmpty start extent holds shares kindOf isVariable isStates isFixed allZero inRange setFits numbersFit sphLines ended blanks unquoted quoted value keyword line lineBegins stateOf stateFits attached stateCount stateLengths stateBytes isStatesAt statesEntry stateAt stateIn statesAt statesOf firstBad countOfKind totalOfKind tallyOf ofKind rule1 rule2 rule3 rule4 rule5 sphFits dsdsFit rule6 rule7At rule7 linesOf rule8At rule8 rule9At rule9 rule10At rule10 isDataAt dataSets rule11 setInside rule12At rule12 sharesAt rule13At rule13 holdsAt rule14At rule14 isVariableAt statesFit rule15 isFilled rule16At rule16 rules1to6 rules7to14 headerRules stateRules verdictFrom verdict variableLengths lengths recordAt recordLength recordPart recordRefusal recordPlace shapeOf bytesOf valueAt recordOf endsIn fieldRefusal fieldIn fieldReply quotient degrees metres inLimits positionAt pointRefusal pointIn pointReply ofInt ofBits div digitsBefore decimal signedDecimal putBefore trimmed lineOf entryLine acceptedLines listingFor listing
+unfolding others answer part byteAt unsignedAt twosComplement signedAt fits valueClasses lineClasses layout valueWidth quoteWidth placeOf widthOf valueOf digits numberOf whole mph dsd spareDsd first some count find sum laidOut headerNumber totSize sphSize numDsd dsdSize numDataSets headersEnd entries dsdsAt dsdAt dsdBytes entryOf entryFrom entriesFrom entryAt directory at isData isReference called nonEmpty start extent holds shares kindOf isVariable isStates isFixed allZero inRange setFits numbersFit sphLines ended blanks unquoted quoted value keyword line lineBegins stateOf stateFits attached stateCount stateLengths stateBytes isStatesAt statesEntry stateAt stateIn statesAt statesOf firstBad countOfKind totalOfKind tallyOf ofKind rule1 rule2 rule3 rule4 rule5 sphFits dsdsFit rule6 rule7At rule7 linesOf rule8At rule8 rule9At rule9 rule10At rule10 isDataAt dataSets rule11 setInside rule12At rule12 sharesAt rule13At rule13 holdsAt rule14At rule14 isVariableAt statesFit rule15 isFilled rule16At rule16 rules1to6 rules7to14 headerRules stateRules verdictFrom verdict variableLengths lengths recordAt recordLength recordPart recordRefusal recordPlace shapeOf bytesOf valueAt recordOf endsIn fieldRefusal fieldIn fieldReply quotient degrees metres inLimits positionAt pointRefusal pointIn pointReply ofInt ofBits div digitsBefore decimal signedDecimal putBefore trimmed lineOf entryLine acceptedLines listingFor listing
 other-cases = refl
 
 -- ---- the 34 header values, and a directory
@@ -208,5 +208,5 @@ mixed-directory :
     × ((directoryOf (directory mixed) .offsets ≡ mixedOffsets)
     × ((directoryOf (directory mixed) .«record_sizes» ≡ pos 0 ∷ pos 0 ∷ negsuc 0 ∷ pos 2 ∷ replicate 124 (pos 0))
     × (take 58 (directoryOf (directory mixed) .names) ≡ replicate 28 32 ++ (bytes "AUX" ++ (replicate 25 32 ++ bytes "NO")))))
-unfolding directoryOf padded part byteAt unsignedAt twosComplement signedAt fits valueClasses lineClasses layout valueWidth quoteWidth placeOf widthOf valueOf digits numberOf whole mph dsd spareDsd first some count find sum laidOut headerNumber totSize sphSize numDsd dsdSize numDataSets headersEnd entries dsdAt dsdBytes entryOf entryAt directory at isData isReference called nonEmpty start extent holds shares kindOf isVariable isStates isFixed allZero inRange setFits numbersFit sphLines ended blanks unquoted quoted value keyword line lineBegins stateOf stateFits attached stateCount stateLengths stateBytes isStatesAt statesEntry stateAt stateIn statesAt statesOf firstBad countOfKind totalOfKind tallyOf ofKind rule1 rule2 rule3 rule4 rule5 sphFits dsdsFit rule6 rule7At rule7 linesOf rule8At rule8 rule9At rule9 rule10At rule10 isDataAt dataSets rule11 setInside rule12At rule12 sharesAt rule13At rule13 holdsAt rule14At rule14 isVariableAt statesFit rule15 isFilled rule16At rule16 rules1to6 rules7to14 headerRules stateRules verdictFrom verdict variableLengths lengths recordAt recordLength recordPart recordRefusal recordPlace shapeOf bytesOf valueAt recordOf endsIn fieldRefusal fieldIn fieldReply quotient degrees metres inLimits positionAt pointRefusal pointIn pointReply ofInt ofBits div digitsBefore decimal signedDecimal putBefore trimmed lineOf entryLine acceptedLines
+unfolding directoryOf padded part byteAt unsignedAt twosComplement signedAt fits valueClasses lineClasses layout valueWidth quoteWidth placeOf widthOf valueOf digits numberOf whole mph dsd spareDsd first some count find sum laidOut headerNumber totSize sphSize numDsd dsdSize numDataSets headersEnd entries dsdsAt dsdAt dsdBytes entryOf entryFrom entriesFrom entryAt directory at isData isReference called nonEmpty start extent holds shares kindOf isVariable isStates isFixed allZero inRange setFits numbersFit sphLines ended blanks unquoted quoted value keyword line lineBegins stateOf stateFits attached stateCount stateLengths stateBytes isStatesAt statesEntry stateAt stateIn statesAt statesOf firstBad countOfKind totalOfKind tallyOf ofKind rule1 rule2 rule3 rule4 rule5 sphFits dsdsFit rule6 rule7At rule7 linesOf rule8At rule8 rule9At rule9 rule10At rule10 isDataAt dataSets rule11 setInside rule12At rule12 sharesAt rule13At rule13 holdsAt rule14At rule14 isVariableAt statesFit rule15 isFilled rule16At rule16 rules1to6 rules7to14 headerRules stateRules verdictFrom verdict variableLengths lengths recordAt recordLength recordPart recordRefusal recordPlace shapeOf bytesOf valueAt recordOf endsIn fieldRefusal fieldIn fieldReply quotient degrees metres inLimits positionAt pointRefusal pointIn pointReply ofInt ofBits div digitsBefore decimal signedDecimal putBefore trimmed lineOf entryLine acceptedLines
 mixed-directory = (refl, (refl, (refl, refl)))

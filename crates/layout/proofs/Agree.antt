@@ -14,13 +14,14 @@ use Rattle.layout.specs.Text.{Number, layout, lineClasses, valueClasses,
 use Rattle.layout.specs.Lines.{mph}
 use Rattle.layout.specs.Answer.{Answer, accepted, refused, none, _orElse_}
 use Rattle.layout.specs.Search.{first, upto, laidOut}
-use Rattle.layout.specs.Entries.{headerNumber, totSize, sphSize, numDsd, dsdSize, numDataSets, headersEnd, entries, dsdAt, dsdBytes, entryAt, directory}
+use Rattle.layout.specs.Entries.{headerNumber, totSize, sphSize, numDsd, dsdSize, numDataSets, headersEnd, entries, dsdsAt, dsdAt, dsdBytes, entryOf, entryFrom, entriesFrom, entryAt, directory}
 use Rattle.layout.specs.Sph.{sphLines}
 use Rattle.layout.specs.States.{Tally, statesOf, tallyOf}
 use Rattle.layout.specs.Rules.{rule1, rule2, rule3, rule4, rule5, rule6, sphFits, dsdsFit, rule7, rule8At, rule8, rule9At, rule9, rule10At, rule10, rule11, rule12, rule13, rule14, rules1to6, rules7to14, headerRules, stateRules, verdictFrom, verdict}
 use Rattle.layout.specs.Answers.{directoryFor}
-use Rattle.layout.proofs.Laws.{and-T, leb-T, need-accepts, orElse-accepts, orElse-assoc, first-same, laidOut-take}
+use Rattle.layout.proofs.Laws.{and-T, leb-T, need-accepts, orElse-accepts, first-same, laidOut-take}
 use Rattle.layout.proofs.Starts.{mph-length}
+use Rattle.layout.proofs.Sound.{entry-at, keeps, both-accept}
 
 -- ---- parts
 
@@ -40,6 +41,12 @@ pub map-upto-same : {A : Type 0} (f g : ℕ → A) (i n : ℕ) → ((k : ℕ) �
 map-upto-same f g i zero h = refl
 map-upto-same f g i (suc n) h = rw (h i (omega arith) (omega arith), map-upto-same f g (suc i) n (λ k l u. h k (omega arith) (omega arith)))
 
+-- DSDs that they have in common
+pub same-entriesFrom : (b c : List ℕ) (m from n : ℕ) → take m b ≡ take m c → from + 280 * n ≤ m → entriesFrom b from n ≡ entriesFrom c from n
+unfolding entriesFrom entryFrom
+same-entriesFrom b c m from n e h =
+    map-upto-same (entryFrom b from) (entryFrom c from) 0 n (λ k l u. ap entryOf (same-part b c m (from + 280 * k) 280 e (omega arith)))
+
 -- two answers of which the second is looked at only where the first accepts
 orElse-same : (a x y : Answer) → (a ≡ accepted → x ≡ y) → (a orElse x) ≡ (a orElse y)
 orElse-same accepted x y h = h refl
@@ -57,7 +64,7 @@ module _ (b c : List ℕ) (n : ℕ) (same : SameHeaders b c n) where
   unfolding headerNumber valueOf
   same-number key h = ap numberOf (same-part b c 1247 (placeOf mph key) (widthOf mph key) (same .main) h)
 
-  same-totSize : totSize b ≡ totSize c
+  pub same-totSize : totSize b ≡ totSize c
   unfolding totSize placeOf widthOf mph lineClasses valueClasses quoteWidth valueWidth
   same-totSize = same-number "TOT_SIZE" (lit≤ tt)
 
@@ -85,9 +92,13 @@ module _ (b c : List ℕ) (n : ℕ) (same : SameHeaders b c n) where
   unfolding entries
   same-entries = ap (λ (v : Number). v .magnitude) same-numDsd
 
+  same-dsdsAt : dsdsAt b ≡ dsdsAt c
+  unfolding dsdsAt
+  same-dsdsAt = rw (same-headersEnd, same-entries)
+
   same-dsdAt : (i : ℕ) → dsdAt b i ≡ dsdAt c i
   unfolding dsdAt
-  same-dsdAt i = rw (same-headersEnd, same-entries)
+  same-dsdAt i = rw same-dsdsAt
 
   same-rule3 : rule3 b n ≡ rule3 c n
   unfolding rule3
@@ -122,24 +133,25 @@ module _ (b c : List ℕ) (n : ℕ) (same : SameHeaders b c n) where
     whole-headers = same .specific sph-there
 
     same-sphLines : sphLines b ≡ sphLines c
-    unfolding sphLines dsdAt headersEnd
+    unfolding sphLines dsdsAt headersEnd
     same-sphLines =
-        same-part b c (headersEnd b) 1247 (dsdAt b 0 - 1247) whole-headers (let d = dsds-there in omega arith)
-        ∙ ap (λ (m : ℕ). part c 1247 (m - 1247)) (same-dsdAt 0)
+        same-part b c (headersEnd b) 1247 (dsdsAt b - 1247) whole-headers (let d = dsds-there in omega arith)
+        ∙ ap (λ (m : ℕ). part c 1247 (m - 1247)) same-dsdsAt
 
     same-dsdBytes : (i : ℕ) → i < entries b → dsdBytes b i ≡ dsdBytes c i
-    unfolding dsdBytes dsdAt headersEnd
+    unfolding dsdBytes dsdAt dsdsAt headersEnd
     same-dsdBytes i l =
         same-part b c (headersEnd b) (dsdAt b i) 280 whole-headers (let d = dsds-there in omega arith)
         ∙ ap (λ (m : ℕ). part c m 280) (same-dsdAt i)
 
     same-entryAt : (i : ℕ) → i < entries b → entryAt b i ≡ entryAt c i
-    unfolding entryAt
-    same-entryAt i l = rw (same-dsdBytes i l)
+    same-entryAt i l = entry-at b i ∙ ap entryOf (same-dsdBytes i l) ∙ sym (entry-at c i)
 
     pub same-directory : directory b ≡ directory c
-    unfolding directory
-    same-directory = map-upto-same (entryAt b) (entryAt c) 0 (entries b) (λ k l u. same-entryAt k (omega arith)) ∙ rw same-entries
+    unfolding directory dsdsAt headersEnd
+    same-directory =
+        same-entriesFrom b c (headersEnd b) (dsdsAt b) (entries b) whole-headers (let d = dsds-there in omega arith)
+        ∙ rw (same-sphSize, same-entries)
 
     by-entry : (f g : ℕ → Answer) → ((i : ℕ) → i < entries b → f i ≡ g i) → first f 0 (entries b) ≡ first g 0 (entries c)
     by-entry f g h = first-same f g 0 (entries b) (λ k l u. h k (omega arith)) ∙ ap (first g 0) same-entries
@@ -170,7 +182,7 @@ module _ (b c : List ℕ) (n : ℕ) (same : SameHeaders b c n) where
 
     same-rule13 : rule13 b n ≡ rule13 c n
     unfolding rule13
-    same-rule13 = simp (same-directory, same-headersEnd)
+    same-rule13 = simp same-directory
 
     same-rule14 : rule14 b n ≡ rule14 c n
     unfolding rule14
@@ -184,24 +196,24 @@ module _ (b c : List ℕ) (n : ℕ) (same : SameHeaders b c n) where
   unfolding rules1to6
   rule6-holds h = (simp orElse-accepts at h) .1 .1 .1 .1 .1
 
-  same-rest : (t : Tally) → rule6 b n ≡ accepted → (rules7to14 b n orElse stateRules (directory b) t) ≡ (rules7to14 c n orElse stateRules (directory c) t)
+  same-rest : rule6 b n ≡ accepted → rules7to14 b n ≡ rules7to14 c n
   unfolding rules7to14
-  same-rest t six =
-      rw (same-rule7 six, same-rule8 six, same-rule9 six, same-rule10 six, same-rule11 six, same-rule12 six, same-rule13 six, same-rule14 six, same-directory six)
+  same-rest six =
+      rw (same-rule7 six, same-rule8 six, same-rule9 six, same-rule10 six, same-rule11 six, same-rule12 six, same-rule13 six, same-rule14 six)
 
-  -- the verdict on a product of n bytes is one of its headers and the tally
+  -- rules 1 to 14 on a product of n bytes look at its headers alone
+  pub same-headerRules : headerRules b n ≡ headerRules c n
+  unfolding headerRules
+  same-headerRules = orElse-same (rules1to6 b n) (rules7to14 b n) (rules7to14 c n) (λ h. same-rest (rule6-holds h)) ∙ rw same-first
+
+  -- and the verdict at these and the tally
   pub same-verdict-from : (t : Tally) → verdictFrom b n t ≡ verdictFrom c n t
-  unfolding verdictFrom headerRules
+  unfolding verdictFrom
   same-verdict-from t =
-      orElse-assoc (rules1to6 b n) (rules7to14 b n) (stateRules (directory b) t)
-      ∙ orElse-same (rules1to6 b n) (rules7to14 b n orElse stateRules (directory b) t) (rules7to14 c n orElse stateRules (directory c) t) (λ h. same-rest t (rule6-holds h))
-      ∙ rw same-first (sym (orElse-assoc (rules1to6 c n) (rules7to14 c n) (stateRules (directory c) t)))
+      orElse-same (headerRules b n) (stateRules (directory b) t) (stateRules (directory c) t) (λ h. rw (same-directory (keeps b n h .six)))
+      ∙ rw same-headerRules
 
 -- ---- whole products
-
-accepted-six : (b : List ℕ) → verdict b ≡ accepted → rule6 b (length b) ≡ accepted
-unfolding verdict verdictFrom headerRules rules1to6
-accepted-six b h = (simp orElse-accepts at h) .0 .0 .1 .1 .1 .1 .1
 
 module _ (b c : List ℕ) (long : length b ≡ length c) (same : SameHeaders b c (length b))
     (tallies : tallyOf (statesOf b (directory b)) ≡ tallyOf (statesOf c (directory c))) where
@@ -213,5 +225,5 @@ module _ (b c : List ℕ) (long : length b ≡ length c) (same : SameHeaders b c
   same-directories = rw (← same-verdict) (go (verdict b) refl)
     where
       go : (a : Answer) → verdict b ≡ a → directoryFor a b ≡ directoryFor a c
-      go accepted h = rw (same-directory b c (length b) same (accepted-six b h))
+      go accepted h = rw (same-directory b c (length b) same (keeps b (length b) (both-accept b h .0) .six))
       go (refused n p e) h = refl

@@ -13,14 +13,14 @@ use lib.IntN.{ℤ, pos, negsuc, negℤ, pos-ne-negsuc}
 use lib.Signed.{ltZ, leZ, _≤ℤ_}
 use lib.ListN.{length, getD, replicate, length-map}
 use Rattle.layout.specs.Bytes.{bytes, member}
-use Rattle.layout.specs.Text.{Number, whole}
+use Rattle.layout.specs.Text.{Number, whole, layout}
 use Rattle.layout.specs.Answer.{accepted}
-use Rattle.layout.specs.Search.{upto}
-use Rattle.layout.specs.Entries.{Entry, sphSize, numDsd, headersEnd, entries, dsdAt, dsdBytes, entryOf, entryAt, directory, at, isData, nonEmpty, start, extent, isVariable}
-use Rattle.layout.specs.States.{State, statesOf, tallyOf}
+use Rattle.layout.specs.Search.{upto, laidOut}
+use Rattle.layout.specs.Entries.{Entry, largestSigned, sphSize, numDsd, headersEnd, entries, dsdsAt, dsdAt, dsdBytes, entryOf, entryFrom, entriesFrom, entryAt, directory, at, isData, nonEmpty, start, extent, isVariable}
+use Rattle.layout.specs.States.{State, Tally, statesOf, tallyOf}
 use Rattle.layout.specs.Records.{lengths}
 use Rattle.layout.specs.Faults.{NonEmpty, Byte, NumbersFit, Variable}
-use Rattle.layout.specs.Rules.{rule2, rule6, sphFits, dsdsFit, rule8, rule8At, rule10, rule10At, rule12, rule12At, setInside, rule13, rule13At, sharesAt, rule14, rule14At, holdsAt, rule15, rule16, rule16At, rules1to6, rules7to14, headerRules, stateRules, verdictFrom, verdict}
+use Rattle.layout.specs.Rules.{rule1, rule2, rule3, rule4, rule5, rule6, sphFits, dsdsFit, rule7, linesOf, rule8, rule8At, rule9, rule9At, rule10, rule10At, rule11, rule12, rule12At, setInside, rule13, rule13At, sharesAt, rule14, rule14At, holdsAt, rule15, rule16, rule16At, rules1to6, rules7to14, headerRules, stateRules, verdictFrom, verdict}
 use Rattle.layout.proofs.Laws.{and-T, imp-T, not-T′, leb-T, eqb-T, leZ-T, ltZ-T, eqZ-T, need-accepts, orElse-accepts, where-accepts, first-accepts, first-accepts-0, some-T}
 use Rattle.layout.proofs.Types.{Typed, laidOut-typed}
 use Rattle.layout.proofs.Widths.{count-small}
@@ -43,24 +43,63 @@ getD-map-upto f d i zero k h = absurd (not-suc-le-zero h)
 getD-map-upto f d i (suc n) zero h = let q : i ≡ i + 0 = omega arith in ap f q
 getD-map-upto f d i (suc n) (suc k) h = getD-map-upto f d (suc i) n k (le-of-suc-le-suc h) ∙ (let q : suc i + k ≡ i + suc k = omega arith in ap f q)
 
+module _ (b : List ℕ) (from n : ℕ) where
+  pub length-entries : length (entriesFrom b from n) ≡ n
+  unfolding entriesFrom
+  length-entries = length-map-upto (entryFrom b from) 0 n
+
+  pub at-entries : (i : ℕ) → i < n → at (entriesFrom b from n) i ≡ entryFrom b from i
+  unfolding entriesFrom at
+  at-entries i h = getD-map-upto (entryFrom b from) (entryOf (replicate 280 32)) 0 n i h ∙ ap (entryFrom b from) (zero-add i)
+
 pub length-directory : (b : List ℕ) → length (directory b) ≡ entries b
 unfolding directory
-length-directory b = length-map-upto (entryAt b) 0 (entries b)
+length-directory b = length-entries b (dsdsAt b) (entries b)
 
 pub at-directory : (b : List ℕ) (i : ℕ) → i < entries b → at (directory b) i ≡ entryAt b i
-unfolding directory at
-at-directory b i h = getD-map-upto (entryAt b) (entryOf (replicate 280 32)) 0 (entries b) i h ∙ ap (entryAt b) (zero-add i)
+unfolding directory entryAt
+at-directory b i h = at-entries b (dsdsAt b) (entries b) i h
+
+pub entry-at : (b : List ℕ) (i : ℕ) → entryAt b i ≡ entryOf (dsdBytes b i)
+unfolding entryAt entryFrom dsdBytes dsdAt
+entry-at b i = refl
 
 -- ---- what acceptance gives
 
-pub record Sound (b : List ℕ) : Type 0 where
-  pub headers : headersEnd b ≤ length b
+-- rules 1 to 14 hold of the bytes at hand and a length, one by one
+pub record Keeps (b : List ℕ) (n : ℕ) : Type 0 where
+  pub one : rule1 b n ≡ accepted
+  pub two : rule2 b n ≡ accepted
+  pub three : rule3 b n ≡ accepted
+  pub four : rule4 b n ≡ accepted
+  pub five : rule5 b n ≡ accepted
+  pub six : rule6 b n ≡ accepted
+  pub seven : rule7 b n ≡ accepted
+  pub eight : rule8 b n ≡ accepted
+  pub nine : rule9 b n ≡ accepted
+  pub ten : rule10 b n ≡ accepted
+  pub eleven : rule11 b n ≡ accepted
+  pub twelve : rule12 b n ≡ accepted
+  pub thirteen : rule13 b n ≡ accepted
+  pub fourteen : rule14 b n ≡ accepted
+
+-- what they give of the directory
+pub record Headed (b : List ℕ) (n : ℕ) : Type 0 where
+  pub long : n ≤ 2147483647
+  pub headers : headersEnd b ≤ n
+  pub few : entries b ≤ 128
   pub dsds : 280 * entries b ≤ sphSize b .magnitude
   pub typed : (i : ℕ) → i < length (directory b) → Typed (at (directory b) i)
+  pub counts : (i : ℕ) → i < length (directory b) → at (directory b) i .count .magnitude < 10 ^ 10  -- NUM_DSR has ten digits
+  pub held : (i : ℕ) → i < length (directory b) → (start (at (directory b) i) ≤ largestSigned) × (extent (at (directory b) i) ≤ largestSigned)
   pub numbers : (i : ℕ) → i < length (directory b) → NumbersFit (at (directory b) i)
-  pub inside : (i : ℕ) → i < length (directory b) → NonEmpty (at (directory b) i) → (headersEnd b ≤ start (at (directory b) i)) × (start (at (directory b) i) + extent (at (directory b) i) ≤ length b)
+  pub inside : (i : ℕ) → i < length (directory b) → NonEmpty (at (directory b) i) → (headersEnd b ≤ start (at (directory b) i)) × (start (at (directory b) i) + extent (at (directory b) i) ≤ n)
   pub apart : (i : ℕ) → i < length (directory b) → ((j : ℕ) × (j < i) × ((p : ℕ) × (Byte (at (directory b) i) p × Byte (at (directory b) j) p))) → ⊥
-  pub covered : (p : ℕ) → headersEnd b ≤ p → p < length b → (i : ℕ) × (i < length (directory b)) × Byte (at (directory b) i) p
+  pub covered : (p : ℕ) → headersEnd b ≤ p → p < n → (i : ℕ) × (i < length (directory b)) × Byte (at (directory b) i) p
+
+-- what all sixteen give: the states fill the variable sets too
+pub record Sound (b : List ℕ) : Type 0 where
+  pub headed : Headed b (length b)
   pub filled : (i : ℕ) → i < length (directory b) → Variable (at (directory b) i) → FilledBy b (directory b) (at (directory b) i)
 
 -- ---- entries without records
@@ -133,101 +172,116 @@ module _ (e : Entry) (fit : NumbersFit e) (typed : Typed e) (empty : nonEmpty e 
   no-records ss = rw (not-variable, no-count)
 
 -- rules 1 to 14 hold
-module _ (b : List ℕ) (h : headerRules b (length b) ≡ accepted) where
-  abbrev Accepts : Type 0
-  Accepts =
-      ((rule2 b (length b) ≡ accepted) × (rule6 b (length b) ≡ accepted))
-      × ((rule8 b (length b) ≡ accepted)
-      × ((rule10 b (length b) ≡ accepted)
-      × ((rule12 b (length b) ≡ accepted)
-      × ((rule13 b (length b) ≡ accepted)
-      × (rule14 b (length b) ≡ accepted)))))
-
-  rules-accept : Accepts
+module _ (b : List ℕ) (n : ℕ) (h : headerRules b n ≡ accepted) where
+  pub keeps : Keeps b n
   unfolding headerRules rules1to6 rules7to14
-  rules-accept =
+  keeps =
       let r = simp orElse-accepts at h in
+      let r4 = r .0 .1 .1 .1 in
       let r8 = r .1 .1 in
-      let r10 = r8 .1 .1 in
-      ((r .0 .1 .0, r .0 .1 .1 .1 .1 .1), (r8 .0, (r10 .0, (r10 .1 .1 .0, r10 .1 .1 .1))))
+      let r11 = r8 .1 .1 .1 in
+      record {
+        one = r .0 .0;
+        two = r .0 .1 .0;
+        three = r .0 .1 .1 .0;
+        four = r4 .0;
+        five = r4 .1 .0;
+        six = r4 .1 .1;
+        seven = r .1 .0;
+        eight = r8 .0;
+        nine = r8 .1 .0;
+        ten = r8 .1 .1 .0;
+        eleven = r11 .0;
+        twelve = r11 .1 .0;
+        thirteen = r11 .1 .1 .0;
+        fourteen = r11 .1 .1 .1;
+      }
 
-  pub rule2-sound : length b ≤ 2147483647
+  rule2-sound : n ≤ 2147483647
   unfolding rule2
-  rule2-sound = simp tests at (rules-accept .0 .0)
+  rule2-sound = simp tests at (keeps .two)
 
-  pub rule6-sound : (headersEnd b ≤ length b) × (280 * entries b ≤ sphSize b .magnitude)
+  rule6-sound : (headersEnd b ≤ n) × (280 * entries b ≤ sphSize b .magnitude)
   unfolding rule6 sphFits dsdsFit
-  rule6-sound = let r = simp tests at (rules-accept .0 .1) in (r .0 .1, r .1 .0 .1)
+  rule6-sound = let r = simp tests at (keeps .six) in (r .0 .1, r .1 .0 .1)
 
-  pub entries-sound : entries b ≤ 128
+  entries-sound : entries b ≤ 128
   unfolding rule6 sphFits dsdsFit entries
-  entries-sound = let r = simp tests at (rules-accept .0 .1) in within-magnitude (numDsd b) 128 (r .1 .0 .0 .0) (r .1 .0 .0 .1)
+  entries-sound = let r = simp tests at (keeps .six) in within-magnitude (numDsd b) 128 (r .1 .0 .0 .0) (r .1 .0 .0 .1)
 
-  pub rule8-sound : (i : ℕ) → i < length (directory b) → Typed (at (directory b) i)
-  unfolding rule8 rule8At entryAt
-  rule8-sound i l =
-      let m : i < entries b = omega (arith, length-directory b) in
-      let r = simp first-accepts-0 at (rules-accept .1 .0) in
-      rw (at-directory b i m) (laidOut-typed (dsdBytes b i) 8 i (dsdAt b i) (r i m))
+  -- what a rule says of every DSD, it says of every entry
+  of-entries : (P : Entry → Type 0) → ((i : ℕ) → i < entries b → P (entryAt b i)) → (i : ℕ) → i < length (directory b) → P (at (directory b) i)
+  of-entries P f i l = let m : i < entries b = omega (arith, length-directory b) in rw (at-directory b i m) (f i m)
 
-  -- NUM_DSR has ten digits
-  pub count-sound : (i : ℕ) → i < length (directory b) → at (directory b) i .count .magnitude < 10 ^ 10
-  unfolding rule8 rule8At entryAt
-  count-sound i l =
-      let m : i < entries b = omega (arith, length-directory b) in
-      let r = simp first-accepts-0 at (rules-accept .1 .0) in
-      rw (at-directory b i m) (count-small (dsdBytes b i) 8 i (dsdAt b i) (r i m))
+  laid-out : (i : ℕ) → i < entries b → laidOut 8 i (dsdAt b i) (layout (linesOf (dsdBytes b i))) (dsdBytes b i) ≡ accepted
+  unfolding rule8 rule8At
+  laid-out = simp first-accepts-0 at (keeps .eight)
 
-  pub rule10-sound : (i : ℕ) → i < length (directory b) → NumbersFit (at (directory b) i)
+  typed-sound : (i : ℕ) → i < entries b → Typed (entryAt b i)
+  typed-sound i l = rw (entry-at b i) (laidOut-typed (dsdBytes b i) 8 i (dsdAt b i) (laid-out i l))
+
+  counts-sound : (i : ℕ) → i < entries b → entryAt b i .count .magnitude < 10 ^ 10
+  counts-sound i l = rw (entry-at b i) (count-small (dsdBytes b i) 8 i (dsdAt b i) (laid-out i l))
+
+  rule9-sound : (i : ℕ) → i < entries b → (start (entryAt b i) ≤ largestSigned) × (extent (entryAt b i) ≤ largestSigned)
+  unfolding rule9 rule9At start extent
+  rule9-sound = simp tests at (keeps .nine)
+
+  rule10-sound : (i : ℕ) → i < entries b → NumbersFit (entryAt b i)
   unfolding rule10 rule10At
-  rule10-sound i l =
-      let m : i < entries b = omega (arith, length-directory b) in
-      let r = simp (first-accepts-0, need-accepts, numbers-T) at (rules-accept .1 .1 .0) in
-      rw (at-directory b i m) (r i m)
+  rule10-sound = simp (first-accepts-0, need-accepts, numbers-T) at (keeps .ten)
 
-  pub rule12-sound : (i : ℕ) → i < length (directory b) → NonEmpty (at (directory b) i) → (headersEnd b ≤ start (at (directory b) i)) × (start (at (directory b) i) + extent (at (directory b) i) ≤ length b)
+  rule12-sound : (i : ℕ) → i < length (directory b) → NonEmpty (at (directory b) i) → (headersEnd b ≤ start (at (directory b) i)) × (start (at (directory b) i) + extent (at (directory b) i) ≤ n)
   unfolding rule12 rule12At setInside
-  rule12-sound = simp (tests, nonEmpty-T) at (rules-accept .1 .1 .1 .0)
+  rule12-sound = simp (tests, nonEmpty-T) at (keeps .twelve)
 
-  pub rule13-sound : (i : ℕ) → i < length (directory b) → ((j : ℕ) × (j < i) × ((p : ℕ) × (Byte (at (directory b) i) p × Byte (at (directory b) j) p))) → ⊥
+  rule13-sound : (i : ℕ) → i < length (directory b) → ((j : ℕ) × (j < i) × ((p : ℕ) × (Byte (at (directory b) i) p × Byte (at (directory b) j) p))) → ⊥
   unfolding rule13 rule13At sharesAt
-  rule13-sound = simp (tests, shares-T) at (rules-accept .1 .1 .1 .1 .0)
+  rule13-sound = simp (tests, shares-T) at (keeps .thirteen)
 
-  pub rule14-sound : (p : ℕ) → headersEnd b ≤ p → p < length b → (i : ℕ) × (i < length (directory b)) × Byte (at (directory b) i) p
+  rule14-sound : (p : ℕ) → headersEnd b ≤ p → p < n → (i : ℕ) × (i < length (directory b)) × Byte (at (directory b) i) p
   unfolding rule14 rule14At holdsAt
-  rule14-sound p l u = let r = simp (first-accepts, tests, holds-T) at (rules-accept .1 .1 .1 .1 .1) in r p l (omega (arith, rule6-sound .0))
+  rule14-sound p l u = let r = simp (first-accepts, tests, holds-T) at (keeps .fourteen) in r p l (omega (arith, rule6-sound .0))
+
+  pub headed : Headed b n
+  headed =
+      record {
+        long = rule2-sound;
+        headers = rule6-sound .0;
+        few = entries-sound;
+        dsds = rule6-sound .1;
+        typed = of-entries Typed typed-sound;
+        counts = of-entries (λ e. e .count .magnitude < 10 ^ 10) counts-sound;
+        held = of-entries (λ e. (start e ≤ largestSigned) × (extent e ≤ largestSigned)) rule9-sound;
+        numbers = of-entries NumbersFit rule10-sound;
+        inside = rule12-sound;
+        apart = rule13-sound;
+        covered = rule14-sound;
+      }
 
 -- all rules hold
 module _ (b : List ℕ) (h : verdict b ≡ accepted) where
+  abbrev tallied : Tally
+  tallied = tallyOf (statesOf b (directory b))
+
   -- rules 1 to 14, and rules 15 and 16
-  pub both-accept : (headerRules b (length b) ≡ accepted) × (stateRules (directory b) (tallyOf (statesOf b (directory b))) ≡ accepted)
+  pub both-accept : (headerRules b (length b) ≡ accepted) × (stateRules (directory b) tallied ≡ accepted)
   unfolding verdict verdictFrom
-  both-accept = orElse-accepts (headerRules b (length b)) (stateRules (directory b) (tallyOf (statesOf b (directory b)))) .0 h
+  both-accept = orElse-accepts (headerRules b (length b)) (stateRules (directory b) tallied) .0 h
 
-  pub accepted-entries : entries b ≤ 128
-  accepted-entries = entries-sound b (both-accept .0)
-
-  accepted-states : rule16 (directory b) (tallyOf (statesOf b (directory b))) ≡ accepted
+  pub states-accept : (rule15 (directory b) tallied ≡ accepted) × (rule16 (directory b) tallied ≡ accepted)
   unfolding stateRules
-  accepted-states = orElse-accepts (rule15 (directory b) (tallyOf (statesOf b (directory b)))) (rule16 (directory b) (tallyOf (statesOf b (directory b)))) .0 (both-accept .1) .1
+  states-accept = orElse-accepts (rule15 (directory b) tallied) (rule16 (directory b) tallied) .0 (both-accept .1)
 
   rule16-sound : (i : ℕ) → i < length (directory b) → Variable (at (directory b) i) → FilledBy b (directory b) (at (directory b) i)
   unfolding rule16 rule16At
   rule16-sound i l v =
-      let r = simp (first-accepts-0, where-accepts, need-accepts) at accepted-states in
+      let r = simp (first-accepts-0, where-accepts, need-accepts) at (states-accept .1) in
       let t = variable-T (at (directory b) i) .1 v in
       filled-T b (directory b) (at (directory b) i) t .0 (r i l t)
 
   pub sound : Sound b
-  sound =
-      let k = both-accept .0 in
-      record {
-        headers = rule6-sound b k .0;
-        dsds = rule6-sound b k .1;
-        typed = rule8-sound b k;
-        numbers = rule10-sound b k;
-        inside = rule12-sound b k;
-        apart = rule13-sound b k;
-        covered = rule14-sound b k;
-        filled = rule16-sound;
-      }
+  sound = record { headed = headed b (length b) (both-accept .0); filled = rule16-sound }
+
+  pub accepted-entries : entries b ≤ 128
+  accepted-entries = sound .headed .few

@@ -127,7 +127,7 @@ join-parts b (n ∷ ns) s =
 
 module _ (ss : List State) (e : Entry) where
   -- a non-empty set's records fill it, by rule 10 or by rule 16
-  lengths-fill : NumbersFit e → (Variable e → (length (variableLengths ss (kindOf e)) ≡ e .count .magnitude) × (sum (variableLengths ss (kindOf e)) ≡ extent e)) → NonEmpty e → sum (lengths ss e) ≡ extent e
+  pub lengths-fill : NumbersFit e → (Variable e → (length (variableLengths ss (kindOf e)) ≡ e .count .magnitude) × (sum (variableLengths ss (kindOf e)) ≡ extent e)) → NonEmpty e → sum (lengths ss e) ≡ extent e
   unfolding lengths extent
   lengths-fill fit filled h = go (isVariable e) refl (fit .1 (h .0) .1 .1 (h .1) .1)
     where
@@ -136,7 +136,7 @@ module _ (ss : List State) (e : Entry) where
       go false q (inl f) = sum-replicate (e .count .magnitude) (e .recordSize .magnitude) ∙ f .1
       go false q (inr f) = absurd (subst (λ (v : Bool). T v) q (variable-T e .1 f))
 
-  records-joined : (b : List ℕ) → join (records b ss e) ≡ take (sum (lengths ss e)) (drop (start e) b)
+  pub records-joined : (b : List ℕ) → join (records b ss e) ≡ take (sum (lengths ss e)) (drop (start e) b)
   unfolding records recordPart recordAt recordLength part
   records-joined b = join-parts b (lengths ss e) (start e)
 
@@ -151,16 +151,16 @@ module _ (b : List ℕ) (m : Sound b) where
   size i = extent (at ds i)
 
   filled-set : (i : ℕ) → i < length ds → NonEmpty (at ds i) → sum (lengths (statesIn b) (at ds i)) ≡ size i
-  filled-set i l h = lengths-fill (statesIn b) (at ds i) (m .numbers i l) (m .filled i l) h
+  filled-set i l h = lengths-fill (statesIn b) (at ds i) (m .headed .numbers i l) (m .filled i l) h
 
   -- rule 13, either way round
   apart : (i j : ℕ) → i < j → j < length ds → (p : ℕ) → Byte (at ds i) p → Byte (at ds j) p → ⊥
-  apart i j h l p u v = m .apart j l (i, h, (p, (v, u)))
+  apart i j h l p u v = m .headed .apart j l (i, h, (p, (v, u)))
 
   inside : All (Inside from size (headersEnd b) (length b)) (nonEmptySets ds)
   unfolding nonEmptySets nonEmptyAt
   inside = select-all (nonEmptyAt ds) (Inside from size (headersEnd b) (length b)) (length ds) 0
-      (λ i l h k. let w = nonEmpty-T (at ds i) .0 k in let r = m .inside i (omega arith) w in (nonEmpty-extent (at ds i) w, r .0, r .1))
+      (λ i l h k. let w = nonEmpty-T (at ds i) .0 k in let r = m .headed .inside i (omega arith) w in (nonEmpty-extent (at ds i) w, r .0, r .1))
 
   pairs : Pairs (Apart from size) (nonEmptySets ds)
   unfolding nonEmptySets nonEmptyAt
@@ -170,13 +170,13 @@ module _ (b : List ℕ) (m : Sound b) where
   cover : (p : ℕ) → headersEnd b ≤ p → p < length b → Some (In from size p) (nonEmptySets ds)
   unfolding nonEmptySets nonEmptyAt
   cover p h l =
-      let r = m .covered p h l in
+      let r = m .headed .covered p h l in
       select-some (nonEmptyAt ds) (In from size p) (length ds) 0 (r .0) (omega arith) (omega (arith, r .1)) (nonEmpty-T (at ds (r .0)) .1 (r .2 .0)) (r .2 .1)
 
   -- in file order the sets lie back to back, from the headers to the end
-  back-to-back : Chain from size (headersEnd b) (length b) (fileOrder ds)
+  pub back-to-back : Chain from size (headersEnd b) (length b) (fileOrder ds)
   unfolding fileOrder startAt
-  back-to-back = chain from size (sorted from (nonEmptySets ds)) (headersEnd b) (length b) (m .headers)
+  back-to-back = chain from size (sorted from (nonEmptySets ds)) (headersEnd b) (length b) (m .headed .headers)
       (sorted-sorted from (nonEmptySets ds))
       (sorted-pairs from (Apart from size) (λ x y h p u v. h p v u) (nonEmptySets ds) pairs)
       (sorted-all from (Inside from size (headersEnd b) (length b)) (nonEmptySets ds) inside)
@@ -270,7 +270,7 @@ module _ (b : List ℕ) (m : Sound b) where
     where
       go : (t : Bool) → nonEmpty (at (directory b) i) ≡ t → T t
       go true x = tt
-      go false x = not-suc-le-zero (rw (no-records (at (directory b) i) (m .numbers i l) (m .typed i l) x (statesIn b)) at h)
+      go false x = not-suc-le-zero (rw (no-records (at (directory b) i) (m .headed .numbers i l) (m .headed .typed i l) x (statesIn b)) at h)
 
   -- a record lies in its set
   pub in-set : (p i j : ℕ) → Lies b p (record′ i j) → Byte (at (directory b) i) p
@@ -291,7 +291,7 @@ module _ (b : List ℕ) (m : Sound b) where
       let full = has-bytes i j l h in
       let e = ends ns j (length ns) h in
       let f : sum (take (length ns) ns) ≡ extent (at (directory b) i) = rw (take-length ns) (filled-set b m i l full) in
-      omega (arith, e, f, m .inside i l full .1)
+      omega (arith, e, f, m .headed .inside i l full .1)
 
   same-entry : (p i k : ℕ) → i < length (directory b) → k < length (directory b) → Byte (at (directory b) i) p → Byte (at (directory b) k) p → k ≡ i
   same-entry p i k l n u v = go (lt-or-le i k) (lt-or-le k i)
@@ -302,7 +302,7 @@ module _ (b : List ℕ) (m : Sound b) where
       go (inr h) (inr w) = omega arith
 
   beyond : (p i j : ℕ) → Lies b p (record′ i j) → headersEnd b ≤ p
-  beyond p i j h = omega (arith, m .inside i (h .0) (has-bytes i j (h .0) (h .1)) .0, in-set p i j h .1 .0)
+  beyond p i j h = omega (arith, m .headed .inside i (h .0) (has-bytes i j (h .0) (h .1)) .0, in-set p i j h .1 .0)
 
   one-record : (p i j l : ℕ) → Lies b p (record′ i j) → Lies b p (record′ i l) → l ≡ j
   unfolding recordAt recordLength
@@ -320,7 +320,7 @@ module _ (b : List ℕ) (m : Sound b) where
   there : (p : ℕ) → headersEnd b ≤ p → p < length b → (i : ℕ) × (j : ℕ) × Lies b p (record′ i j)
   unfolding recordAt recordLength
   there p h l =
-      let r = m .covered p h l in
+      let r = m .headed .covered p h l in
       let f = filled-set b m (r .0) (r .1) (r .2 .0) in
       let x = r .2 .1 in
       let s = locate (lengths (statesIn b) (at (directory b) (r .0))) (p - start (at (directory b) (r .0))) (omega (arith, f, x)) in

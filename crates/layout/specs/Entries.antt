@@ -54,9 +54,12 @@ headersEnd b = 1247 + sphSize b .magnitude
 unfoldable pub entries : List ℕ → ℕ
 entries b = numDsd b .magnitude
 
--- where DSD i begins: the DSDs are the last 280 x NUM_DSD bytes of the SPH
+-- where the DSDs begin: they are the last 280 x NUM_DSD bytes of the SPH; and where DSD i does
+unfoldable pub dsdsAt : List ℕ → ℕ
+dsdsAt b = headersEnd b - 280 * entries b
+
 unfoldable pub dsdAt : List ℕ → ℕ → ℕ
-dsdAt b i = headersEnd b - 280 * entries b + 280 * i
+dsdAt b i = dsdsAt b + 280 * i
 
 unfoldable pub dsdBytes : List ℕ → ℕ → List ℕ
 dsdBytes b i = part b (dsdAt b i) 280
@@ -84,11 +87,19 @@ entryOf d =
       recordSize = numberOf (valueOf dsd d "DSR_SIZE");
     }
 
+-- the entries of DSDs that follow each other from a place on: number i, and the first n
+unfoldable pub entryFrom : List ℕ → ℕ → ℕ → Entry
+entryFrom b from i = entryOf (part b (from + 280 * i) 280)
+
+unfoldable pub entriesFrom : List ℕ → ℕ → ℕ → List Entry
+entriesFrom b from n = map (entryFrom b from) (upto 0 n)
+
+-- those of a product
 unfoldable pub entryAt : List ℕ → ℕ → Entry
-entryAt b i = entryOf (dsdBytes b i)
+entryAt b i = entryFrom b (dsdsAt b) i
 
 unfoldable pub directory : List ℕ → List Entry
-directory b = map (entryAt b) (upto 0 (entries b))
+directory b = entriesFrom b (dsdsAt b) (entries b)
 
 -- entry i of a directory
 unfoldable pub at : List Entry → ℕ → Entry

@@ -9,7 +9,7 @@ use lib.ListN.{length, take, getD, replicate}
 use Rattle.layout.specs.Bytes.{part}
 use Rattle.layout.specs.Answer.{Answer, none, need, Reply, refusal, is, _orElse_, _else_}
 use Rattle.layout.specs.Search.{upto, sum, join}
-use Rattle.layout.specs.Entries.{Entry, directory, at, start, kindOf, isVariable, dsdAt}
+use Rattle.layout.specs.Entries.{Entry, directory, at, start, kindOf, isVariable, dsdsAt}
 use Rattle.layout.specs.States.{State, stateLengths, statesOf}
 use Rattle.layout.specs.Rules.{verdict}
 
@@ -67,4 +67,4 @@ recordPlace b i j =
 
 -- where the SPH lines stand
 unfoldable pub sphPlace : List ℕ → Reply Span
-sphPlace b = verdict b else record { place = 1247; length = dsdAt b 0 - 1247 }
+sphPlace b = verdict b else record { place = 1247; length = dsdsAt b - 1247 }

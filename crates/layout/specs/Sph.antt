@@ -6,11 +6,11 @@ use mathlib.Core.List.{List, [], _∷_}
 use lib.Dec.{eqb}
 use Rattle.layout.specs.Bytes.{part, byteAt, within}
 use Rattle.layout.specs.Text.{plain, fits}
-use Rattle.layout.specs.Entries.{dsdAt}
+use Rattle.layout.specs.Entries.{dsdsAt}
 
 -- all bytes of the SPH before the DSDs
 unfoldable pub sphLines : List ℕ → List ℕ
-sphLines b = part b 1247 (dsdAt b 0 - 1247)
+sphLines b = part b 1247 (dsdsAt b - 1247)
 
 -- only byte 10 follows
 unfoldable pub ended : List ℕ → Bool
