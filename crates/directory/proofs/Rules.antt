@@ -28,7 +28,7 @@ use Rattle.layout.proofs.Sound.{length-directory, at-directory}
 use Rattle.layout.proofs.Types.{laidOut-typed}
 use Rattle.text.specs.Numbers.{numberIn}
 use Rattle.text.specs.declared.Number.{Number as HeldNumber}
-use Rattle.sets.specs.Sets.{Held}
+use Rattle.placement.specs.Sets.{Held}
 use Rattle.dsd.specs.Held.{numberFrom}
 use Rattle.directory.specs.Checks.{setsOf, Headers, Dsds, ReadAll, Checked}
 use Rattle.directory.specs.declared.Sets.{Sets}

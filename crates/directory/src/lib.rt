@@ -1,5 +1,6 @@
 // The directory of a product (document 01, rules 7 to 14): the numbers of its entries, what is asked of them, and what is answered of all.
 use dsd::Entry;
+use layout::Verdict;
 ghost use mathlib.Core.Path.{_≡_};
 ghost use Prim.Native.Nat.{ℕ, _+_, _*_, _-_, _≤_};
 ghost use lib.Dec.{eqb};
@@ -15,7 +16,7 @@ ghost use Rattle.layout.specs.Lines.{sizeOfDsd};
 ghost use Rattle.layout.specs.Rules.{rule7, rule8At, rule8, rule12At, rule13At, rule14At};
 ghost use Rattle.layout.specs.Search.{first, join};
 ghost use Rattle.layout.specs.Text.{whole};
-ghost use Rattle.sets.specs.Sets.{Held};
+ghost use Rattle.placement.specs.Sets.{Held};
 ghost use Rattle.directory.specs.Checks.{together, setsOf, noSets, Headers, Dsds, ReadAll, Checked};
 
 // The numbers and roles of up to 128 entries held together, unused places zero.
@@ -68,18 +69,8 @@ impl Sets {
     }
 }
 
-fn refuse(number: u8, place: u64, entry: usize) -> layout::Verdict
-    ensures { λ r. ⌜ verdictIs r ≡ refused number place entry ⌝ }
-{
-    layout::Verdict::Refused(layout::Refusal {
-        number: number,
-        place: place,
-        entry: entry,
-    })
-}
-
 // Rule 8: the first byte of the DSDs, which begin at `dsds`, that is not as laid out.
-fn check_dsds(p: &[u8], dsds: usize, entries: usize) -> layout::Verdict
+fn check_dsds(p: &[u8], dsds: usize, entries: usize) -> Verdict
     requires { ⌜ Dsds (now p) dsds entries ⌝ }
     ensures { λ r. ⌜ verdictIs r ≡ first (rule8At (now (p .entry))) 0 entries ⌝ }
 {
@@ -88,17 +79,17 @@ fn check_dsds(p: &[u8], dsds: usize, entries: usize) -> layout::Verdict
         let start = dsds + Entry::SIZE * i;
         let bad = lines::dsd_check(p, start);
         if bad != start + Entry::SIZE {
-            return refuse(8, bad as u64, i);
+            return Verdict::refuse(8, bad as u64, i);
         }
         i += 1;
     }
-    layout::Verdict::Accepted
+    Verdict::Accepted
 }
 
 // What one reading of the entries gives: rule 9's verdict and, where it accepts, how many entries in a row have numbers that fit (rule 10) and how many
 // are counted (rule 11).
 struct Reading {
-    over: layout::Verdict,
+    over: Verdict,
     fitting: usize,
     counted: usize,
 }
@@ -107,7 +98,7 @@ fn over_reading(place: usize, entry: usize) -> Reading
     ensures { λ r. ⌜ (verdictIs (r .over) ≡ refused 9 place entry) × (r .fitting ≡ 0) ⌝ }
 {
     Reading {
-        over: refuse(9, place as u64, entry),
+        over: Verdict::refuse(9, place as u64, entry),
         fitting: 0,
         counted: 0,
     }
@@ -117,7 +108,7 @@ fn full_reading(fitting: usize, counted: usize) -> Reading
     ensures { λ r. ⌜ (verdictIs (r .over) ≡ accepted) × (r .fitting ≡ fitting) × (r .counted ≡ counted) ⌝ }
 {
     Reading {
-        over: layout::Verdict::Accepted,
+        over: Verdict::Accepted,
         fitting,
         counted,
     }
@@ -162,39 +153,33 @@ fn read_sets(
 }
 
 // Rules 7 and 8: the SPH lines before the DSDs, and the DSDs.
-fn check_text(p: &[u8], dsds: usize, entries: usize) -> layout::Verdict
+fn check_text(p: &[u8], dsds: usize, entries: usize) -> Verdict
     requires { ⌜ Dsds (now p) dsds entries ⌝ }
     ensures { λ r. ⌜ ((n : ℕ) → verdictIs r ≡ (rule7 (now (p .entry)) n orElse rule8 (now (p .entry)) n)) ⌝ }
 {
     let bad = sph::first_bad_line(p, dsds);
     if bad != dsds {
-        return refuse(7, bad as u64, 128);
+        return Verdict::refuse(7, bad as u64, 128);
     }
     check_dsds(p, dsds, entries)
 }
 
 // Rules 10 and 11, by what a reading gives.
-fn check_numbers(
-    p: &[u8],
-    dsds: usize,
-    entries: usize,
-    fitting: usize,
-    counted: usize,
-) -> layout::Verdict
+fn check_numbers(p: &[u8], dsds: usize, entries: usize, fitting: usize, counted: usize) -> Verdict
     requires { ⌜ Dsds (now p) dsds entries × (fitting ≤ entries) ⌝ }
     ensures { λ r. ⌜ verdictIs r ≡ (need (eqb fitting entries) 10 (dsds + sizeOfDsd * fitting) fitting orElse need (eqZ (whole (numDataSets (now (p .entry)))) (pos counted)) 11 1194 128) ⌝ }
 {
     if fitting != entries {
-        return refuse(10, (dsds + Entry::SIZE * fitting) as u64, fitting);
+        return Verdict::refuse(10, (dsds + Entry::SIZE * fitting) as u64, fitting);
     }
     let data_sets = text::number_at(p, 1194, 11);
     if dsd::is_negative(data_sets) {
-        return refuse(11, 1194, 128);
+        return Verdict::refuse(11, 1194, 128);
     }
     if data_sets.magnitude != counted as u64 {
-        return refuse(11, 1194, 128);
+        return Verdict::refuse(11, 1194, 128);
     }
-    layout::Verdict::Accepted
+    Verdict::Accepted
 }
 
 // Rules 12 to 14, by the numbers of the entries.
@@ -204,23 +189,23 @@ fn check_places<'a>(
     entries: usize,
     headers_end: u64,
     length: u64,
-) -> layout::Verdict
+) -> Verdict
     requires { ⌜ entries ≤ 128 ⌝ }
     ensures { λ r. ⌜ ((ds : List LayoutEntry) → Held ds (now (offsets .entry)) (now (sizes .entry)) → lib.ListN.length ds ≡ entries → verdictIs r ≡ (first (rule12At ds «headers_end» length) 0 entries orElse (first (rule13At ds) 0 entries orElse first (rule14At ds) «headers_end» (length - «headers_end»)))) ⌝ }
 {
-    let outside = sets::first_outside(offsets, sizes, entries, headers_end, length);
+    let outside = placement::first_outside(offsets, sizes, entries, headers_end, length);
     if outside != entries {
-        return refuse(12, offsets[outside], outside);
+        return Verdict::refuse(12, offsets[outside], outside);
     }
-    let overlapping = sets::first_overlapping(offsets, sizes, entries);
+    let overlapping = placement::first_overlapping(offsets, sizes, entries);
     if overlapping != entries {
-        return refuse(13, offsets[overlapping], overlapping);
+        return Verdict::refuse(13, offsets[overlapping], overlapping);
     }
-    let uncovered = cover::first_uncovered(offsets, sizes, entries, headers_end, length);
+    let uncovered = placement::first_uncovered(offsets, sizes, entries, headers_end, length);
     if uncovered != length {
-        return refuse(14, uncovered, 128);
+        return Verdict::refuse(14, uncovered, 128);
     }
-    layout::Verdict::Accepted
+    Verdict::Accepted
 }
 
 // Rules 9 to 14, of a product that meets rules 7 and 8, its numbers read into arrays of zeros.
@@ -235,7 +220,7 @@ fn check_sets(
     counts: &mut [u64; 128],
     record_sizes: &mut [i64; 128],
     roles: &mut [u8; 128],
-) -> layout::Verdict
+) -> Verdict
     requires { ⌜ Headers (now p) «headers_end» entries × ((rule7 (now p) length orElse rule8 (now p) length) ≡ accepted) × (together 0 (now types) (now offsets) (now sizes) (now counts) (now «record_sizes») (now roles) ≡ noSets) ⌝ }
     ensures { λ r. ⌜ Checked (now (p .entry)) length r (together entries (now (types .exit)) (now (offsets .exit)) (now (sizes .exit)) (now (counts .exit)) (now («record_sizes» .exit)) (now (roles .exit))) ⌝ }
 {
@@ -252,12 +237,12 @@ fn check_sets(
         roles,
     );
     let over = reading.over;
-    if let layout::Verdict::Refused(refusal) = over {
-        return layout::Verdict::Refused(refusal);
+    if let Verdict::Refused(refusal) = over {
+        return Verdict::Refused(refusal);
     }
     let numbers = check_numbers(p, dsds, entries, reading.fitting, reading.counted);
-    if let layout::Verdict::Refused(refusal) = numbers {
-        return layout::Verdict::Refused(refusal);
+    if let Verdict::Refused(refusal) = numbers {
+        return Verdict::Refused(refusal);
     }
     check_places(offsets, sizes, entries, headers_end as u64, length)
 }
@@ -274,13 +259,13 @@ pub fn check_directory(
     counts: &mut [u64; 128],
     record_sizes: &mut [i64; 128],
     roles: &mut [u8; 128],
-) -> layout::Verdict
+) -> Verdict
     requires { ⌜ Headers (now p) «headers_end» entries × (together 0 (now types) (now offsets) (now sizes) (now counts) (now «record_sizes») (now roles) ≡ noSets) ⌝ }
     ensures { λ r. ⌜ Checked (now (p .entry)) length r (together entries (now (types .exit)) (now (offsets .exit)) (now (sizes .exit)) (now (counts .exit)) (now («record_sizes» .exit)) (now (roles .exit))) ⌝ }
 {
     let text = check_text(p, headers_end - Entry::SIZE * entries, entries);
-    if let layout::Verdict::Refused(refusal) = text {
-        return layout::Verdict::Refused(refusal);
+    if let Verdict::Refused(refusal) = text {
+        return Verdict::Refused(refusal);
     }
     check_sets(
         p,

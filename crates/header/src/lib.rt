@@ -6,64 +6,53 @@ ghost use lib.ListN.{length};
 ghost use Rattle.layout.specs.Bytes.{part};
 ghost use Rattle.layout.specs.Text.{numberOf, whole, layout};
 ghost use Rattle.layout.specs.Lines.{sizeOfMph, mph};
-ghost use Rattle.layout.specs.Answer.{refused};
 ghost use Rattle.layout.specs.Search.{laidOut};
 ghost use Rattle.layout.specs.Entries.{withinZ};
 ghost use Rattle.layout.specs.Rules.{sphFits, dsdsFit, rule6, rules1to6};
 ghost use Rattle.layout.specs.Answers.{verdictIs};
 ghost use Rattle.header.specs.Checks.{lengthRules, totalRules, HeaderChecked};
 use dsd::Entry;
+use layout::Verdict;
 use values::MainHeader;
 
-// A refusal that is of no entry.
-fn refuse(number: u8, place: u64) -> layout::Verdict
-    ensures { λ r. ⌜ verdictIs r ≡ refused number place 128 ⌝ }
-{
-    layout::Verdict::Refused(layout::Refusal {
-        number,
-        place,
-        entry: 128,
-    })
-}
-
 // Rules 1 and 2, which look at no byte.
-fn length_rules(length: u64) -> layout::Verdict
+fn length_rules(length: u64) -> Verdict
     ensures { λ r. ⌜ verdictIs r ≡ lengthRules length ⌝ }
 {
     if length < MainHeader::SIZE as u64 {
-        return refuse(1, length);
+        return Verdict::refuse(1, length, 128);
     }
     if 2147483647 < length {
-        return refuse(2, 0);
+        return Verdict::refuse(2, 0, 128);
     }
-    layout::Verdict::Accepted
+    Verdict::Accepted
 }
 
 // Rule 3.
-fn layout_rule(p: &[u8]) -> layout::Verdict
+fn layout_rule(p: &[u8]) -> Verdict
     requires { ⌜ sizeOfMph ≤ length (now p) ⌝ }
     ensures { λ r. ⌜ verdictIs r ≡ laidOut 3 128 0 (layout mph) (now (p .entry)) ⌝ }
 {
     let bad = lines::main_header_check(p);
     if bad != MainHeader::SIZE {
-        return refuse(3, bad as u64);
+        return Verdict::refuse(3, bad as u64, 128);
     }
-    layout::Verdict::Accepted
+    Verdict::Accepted
 }
 
 // Rules 4 and 5.
-fn total_rules(p: &[u8], length: u64) -> layout::Verdict
+fn total_rules(p: &[u8], length: u64) -> Verdict
     requires { ⌜ (sizeOfMph ≤ lib.ListN.length (now p)) × (length ≤ 2147483647) ⌝ }
     ensures { λ r. ⌜ verdictIs r ≡ totalRules (now (p .entry)) length ⌝ }
 {
     let total = text::number_at(p, 1075, 21);
     if 9223372036854775807 < total.magnitude {
-        return refuse(4, 1075);
+        return Verdict::refuse(4, 1075, 128);
     }
     if total.whole() != length as i64 {
-        return refuse(5, 1075);
+        return Verdict::refuse(5, 1075, 128);
     }
-    layout::Verdict::Accepted
+    Verdict::Accepted
 }
 
 // The magnitude of a number of a sign and ten digits.
@@ -110,38 +99,38 @@ fn dsds_fit(p: &[u8]) -> bool
 }
 
 // Rule 6.
-fn size_rules(p: &[u8], length: u64) -> layout::Verdict
+fn size_rules(p: &[u8], length: u64) -> Verdict
     requires { ⌜ sizeOfMph ≤ lib.ListN.length (now p) ⌝ }
     ensures { λ r. ⌜ verdictIs r ≡ rule6 (now (p .entry)) length ⌝ }
 {
     if !sph_fits(p, length) {
-        return refuse(6, 1113);
+        return Verdict::refuse(6, 1113, 128);
     }
     if !dsds_fit(p) {
-        return refuse(6, 1140);
+        return Verdict::refuse(6, 1140, 128);
     }
     let dsd_size = values::whole_at(p, 1161, 11);
     if dsd_size != Entry::SIZE as i64 {
-        return refuse(6, 1161);
+        return Verdict::refuse(6, 1161, 128);
     }
-    layout::Verdict::Accepted
+    Verdict::Accepted
 }
 
 // Rules 1 to 6 in their order: the first that refuses.
-fn header_rules(p: &[u8], length: u64) -> layout::Verdict
+fn header_rules(p: &[u8], length: u64) -> Verdict
     requires { ⌜ (sizeOfMph ≤ length → sizeOfMph ≤ lib.ListN.length (now p)) ⌝ }
     ensures { λ r. ⌜ verdictIs r ≡ rules1to6 (now (p .entry)) length ⌝ }
 {
     let by_length = length_rules(length);
-    if let layout::Verdict::Refused(_) = by_length {
+    if let Verdict::Refused(_) = by_length {
         return by_length;
     }
     let by_layout = layout_rule(p);
-    if let layout::Verdict::Refused(_) = by_layout {
+    if let Verdict::Refused(_) = by_layout {
         return by_layout;
     }
     let by_total = total_rules(p, length);
-    if let layout::Verdict::Refused(_) = by_total {
+    if let Verdict::Refused(_) = by_total {
         return by_total;
     }
     size_rules(p, length)
@@ -149,7 +138,7 @@ fn header_rules(p: &[u8], length: u64) -> layout::Verdict
 
 // What rules 1 to 6 tell, with where the headers end and the number of directory entries; zeros beside a refusal.
 pub struct HeaderCheck {
-    pub verdict: layout::Verdict,
+    pub verdict: Verdict,
     pub headers_end: usize,
     pub entries: usize,
 }
@@ -160,7 +149,7 @@ pub fn check_header(p: &[u8], length: u64) -> HeaderCheck
     ensures { λ r. ⌜ HeaderChecked (now (p .entry)) length r ⌝ }
 {
     let verdict = header_rules(p, length);
-    if let layout::Verdict::Refused(_) = verdict {
+    if let Verdict::Refused(_) = verdict {
         return HeaderCheck {
             verdict,
             headers_end: 0,
