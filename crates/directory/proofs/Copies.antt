@@ -10,7 +10,7 @@ use lib.ListN.{length, take, drop, getD, set, replicate, length-drop, length-app
 use lib.Seq.{getD-take, getD-drop, length-take-le, take-all, take-at, drop-append-add, paste, paste-suc, length-paste}
 use Rattle.layout.specs.Bytes.{part}
 use Rattle.layout.specs.Search.{join}
-use Rattle.layout.specs.Entries.{Entry, entries, dsdBytes, entryOf, entryAt, directory}
+use Rattle.layout.specs.Entries.{Entry, entries, entryOf, entryFrom, entryAt, directory}
 use Rattle.layout.specs.Answers.{padded, nameOf, filenameOf, directoryOf}
 use Rattle.layout.specs.declared.Directory.{Directory}
 use Rattle.directory.specs.Checks.{entriesTo, setsOf, Dsds}
@@ -111,8 +111,8 @@ module _ (g : Entry → List ℕ) (w total : ℕ) (b : List ℕ) where
 
 module _ (b : List ℕ) (dsds n i : ℕ) (placed : Dsds b dsds n) where
   entry-here : entryAt b i ≡ entryOf (part b (dsds + 280 * i) 280)
-  unfolding entryAt dsdBytes
-  entry-here = ap (λ (k : ℕ). entryOf (part b k 280)) (sym (place b dsds n i placed))
+  unfolding entryAt entryFrom
+  entry-here = ap (λ (k : ℕ). entryOf (part b (k + 280 * i) 280)) (sym (placed .begin))
 
   pub name-here : part b (dsds + 280 * i + 9) 28 ≡ nameOf (entryAt b i)
   name-here = sym (ap nameOf (entry-here ∙ entry-placed b (dsds + 280 * i)))

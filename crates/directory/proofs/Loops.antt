@@ -14,7 +14,7 @@ use lib.Seq.{append-snoc, set-at}
 use borrow.Author.Tests.{eq-eqb, ne-eqb, ltb-true, ltb-false}
 use Rattle.layout.specs.Answer.{Answer, accepted, refused, need, _orElse_}
 use Rattle.layout.specs.Search.{first, count, upto}
-use Rattle.layout.specs.Entries.{Entry, entries, entryAt, directory, start, extent, isData}
+use Rattle.layout.specs.Entries.{Entry, entries, entriesFrom, entryAt, directory, start, extent, isData}
 use Rattle.layout.specs.Rules.{isDataAt}
 use Rattle.layout.specs.Answers.{padded, typeOf, countOf, recordSizeOf}
 use Rattle.layout.proofs.Laws.{orElse-assoc, orElse-accepted, first-step, upto-one-more}
@@ -36,7 +36,7 @@ unfolding entriesTo
 length-to b i = length-map-upto (entryAt b) 0 i
 
 pub to-all : (b : List ℕ) (n : ℕ) → n ≡ entries b → entriesTo b n ≡ directory b
-unfolding entriesTo directory
+unfolding entriesTo directory entriesFrom entryAt
 to-all b n e = ap (λ (k : ℕ). map (entryAt b) (upto 0 k)) e
 
 -- ---- an array of 128 places that holds the first of them

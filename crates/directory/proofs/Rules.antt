@@ -20,11 +20,11 @@ use Rattle.layout.specs.Answers.{verdictIs}
 use Rattle.layout.specs.declared.Verdict.{Verdict}
 use Rattle.layout.specs.Search.{first, count, laidOut}
 use Rattle.layout.specs.Sph.{sphLines}
-use Rattle.layout.specs.Entries.{Entry, eqZ, headerNumber, numDataSets, entries, dsdAt, dsdBytes, entryOf, entryAt, directory, at, start, extent, nonEmpty, isData, isReference, allZero, inRange, setFits, numbersFit}
+use Rattle.layout.specs.Entries.{Entry, eqZ, headerNumber, numDataSets, entries, dsdsAt, dsdAt, dsdBytes, entryOf, entryAt, directory, at, start, extent, nonEmpty, isData, isReference, allZero, inRange, setFits, numbersFit}
 use Rattle.layout.specs.Rules.{linesOf, rule7At, rule7, rule8At, rule8, rule9At, rule9, rule10At, rule10, dataSets, rule11, rule12At, rule12, rule13At, rule13, rule14At, rule14, rules7to14}
 use Rattle.layout.proofs.Laws.{accepted≢refused, need-accepts, orElse-accepts, orElse-assoc, first-accepts-0}
 use Rattle.layout.proofs.Padded.{padded-at}
-use Rattle.layout.proofs.Sound.{length-directory, at-directory}
+use Rattle.layout.proofs.Sound.{length-directory, at-directory, entry-at}
 use Rattle.layout.proofs.Types.{laidOut-typed}
 use Rattle.text.specs.Numbers.{numberIn}
 use Rattle.text.specs.declared.Number.{Number as HeldNumber}
@@ -40,7 +40,7 @@ use Rattle.dsd.proofs.Places.{short-number}
 -- ---- where the DSDs begin
 
 pub dsds-of : {b : List ℕ} {end n : ℕ} → Headers b end n → Dsds b (end - 280 * n) n
-unfolding dsdAt
+unfolding dsdsAt
 dsds-of h =
     let e = h .ends in
     let a = h .all in
@@ -136,12 +136,12 @@ module _ (e : Entry) (fit : numbersFit e ≡ true) where
 -- what the arrays hold where rules 8 and 10 accept
 module _ (b : List ℕ) (sets : Sets) (read : sets ≡ setsOf (directory b)) (m : ℕ) (eight : rule8 b m ≡ accepted) (ten : rule10 b m ≡ accepted) where
   entry-sized : (i : ℕ) → i < length (directory b) → nonEmpty (at (directory b) i) ≡ ltb 0 (extent (at (directory b) i))
-  unfolding rule8 rule8At rule10 rule10At entryAt
+  unfolding rule8 rule8At rule10 rule10At
   entry-sized i l =
       let k : i < entries b = omega (arith, length-directory b) in
       let laid = first-accepts-0 (rule8At b) (entries b) .0 eight i k in
       let fit = need-accepts (numbersFit (entryAt b i)) 10 (dsdAt b i) i .0 (first-accepts-0 (rule10At b) (entries b) .0 ten i k) in
-      rw (at-directory b i k) (sized (entryAt b i) (true-of (numbersFit (entryAt b i)) fit) (laidOut-sized (dsdBytes b i) 8 i (dsdAt b i) laid))
+      rw (at-directory b i k) (sized (entryAt b i) (true-of (numbersFit (entryAt b i)) fit) (rw (entry-at b i) (laidOut-sized (dsdBytes b i) 8 i (dsdAt b i) laid)))
     where
       true-of : (t : Bool) → T t → t ≡ true
       true-of true h = refl

@@ -11,7 +11,7 @@ use Rattle.layout.specs.Bytes.{part}
 use Rattle.layout.specs.Text.{layout}
 use Rattle.layout.specs.Answer.{accepted, refused, need, _orElse_}
 use Rattle.layout.specs.Search.{laidOut}
-use Rattle.layout.specs.Entries.{largestSigned, dsdAt, dsdBytes, entryOf, entryAt, numbersFit}
+use Rattle.layout.specs.Entries.{largestSigned, dsdAt, dsdBytes, entryOf, entryFrom, entryAt, numbersFit}
 use Rattle.layout.specs.Rules.{linesOf, rule8At, rule9At, rule10At}
 use Rattle.dsd.specs.declared.Entry.{Entry as HeldEntry}
 use Rattle.dsd.specs.Held.{numberFrom, heldOf, viewOf, overPlace, Read}
@@ -36,8 +36,8 @@ module _ (b : List ℕ) (dsds n i : ℕ) (placed : Dsds b dsds n) where
 
 module _ (b : List ℕ) (dsds n i : ℕ) (placed : Dsds b dsds n) (h : HeldEntry) (read : Read b (dsds + 280 * i) h) where
   held-of : h ≡ heldOf (entryAt b i)
-  unfolding entryAt dsdBytes
-  held-of = read .is ∙ ap (λ (k : ℕ). heldOf (entryOf (part b k 280))) (place b dsds n i placed)
+  unfolding entryAt entryFrom
+  held-of = read .is ∙ ap (λ (k : ℕ). heldOf (entryOf (part b (k + 280 * i) 280))) (placed .begin)
 
   nine : rule9At b i ≡ need (eqb (overPlace (viewOf h)) 0) 9 (dsds + 280 * i + overPlace (viewOf h)) i
   unfolding rule9At overPlace viewOf numberFrom heldOf

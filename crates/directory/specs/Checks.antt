@@ -8,7 +8,7 @@ use lib.IntN.{ℤ, pos}
 use lib.ListN.{length, replicate}
 use Rattle.layout.specs.Answer.{accepted, need}
 use Rattle.layout.specs.Search.{first, count, upto}
-use Rattle.layout.specs.Entries.{Entry, headersEnd, entries, dsdAt, entryAt, directory, start, extent}
+use Rattle.layout.specs.Entries.{Entry, headersEnd, entries, dsdsAt, entryAt, directory, start, extent}
 use Rattle.layout.specs.Rules.{rule9At, rule10At, isDataAt, rules7to14}
 use Rattle.layout.specs.Answers.{padded, typeOf, countOf, recordSizeOf, verdictIs}
 use Rattle.directory.specs.declared.Sets.{Sets}
@@ -53,7 +53,7 @@ pub record Headers (b : List ℕ) (end n : ℕ) : Type 0 where
 
 -- n DSDs begin at a place behind the main header, all there
 pub record Dsds (b : List ℕ) (dsds n : ℕ) : Type 0 where
-  pub begin : dsds ≡ dsdAt b 0
+  pub begin : dsds ≡ dsdsAt b
   pub all : n ≡ entries b
   pub most : n ≤ 128
   pub behind : 1247 ≤ dsds
