@@ -1,4 +1,5 @@
 pub mod Turns
+pub mod Arrays
 pub mod Loops
+pub mod Held
 pub mod Rules
-pub mod Copies

@@ -1,12 +1,13 @@
 -- Rules 7 to 14 put together from what the checks answer, and what rules 8 and 10 give to those after them: only entries with a set have a size.
 -- Assumes nothing.
-use Prim.Native.Nat.{ℕ, zero, suc, _+_, _*_, _-_, _<_}
+use Prim.Native.Nat.{ℕ, zero, suc, _+_, _*_, _-_, _≤_, _<_}
 use mathlib.Core.Bool.{Bool, true, false, _&&_, _||_, not, and-false}
 use mathlib.Core.List.{List}
 use mathlib.Core.Logic.{_⊎_, inl, inr, ⊎-elim}
-use mathlib.Core.Path.{_≡_, refl, sym, ap, _∙_}
+use mathlib.Core.Path.{_≡_, refl, sym, ap, _∙_, subst}
 use native.Mathlib.Omega.{arith}
-use lib.Dec.{T, ltb, eqb}
+use native.Mathlib.Nat.{zero-add}
+use lib.Dec.{T, ltb, eqb, eqb→eq}
 use lib.IntN.{pos, negsuc}
 use lib.Signed.{leZ, ltZ}
 use lib.ListN.{length, drop, getD, length-drop}
@@ -17,20 +18,29 @@ use Rattle.layout.specs.Text.{layout, lineClasses, valueClasses, valueWidth, qu
 use Rattle.layout.specs.Lines.{mph}
 use Rattle.layout.specs.Answer.{Answer, accepted, refused, need, _orElse_}
 use Rattle.layout.specs.Answers.{verdictIs}
+use Rattle.layout.specs.declared.Refusal.{Refusal}
 use Rattle.layout.specs.declared.Verdict.{Verdict}
-use Rattle.layout.specs.Search.{first, count, laidOut}
+use Rattle.layout.specs.declared.Verdict.the-variants.{Accepted, Refused}
+use Rattle.layout.specs.Search.{first, laidOut}
 use Rattle.layout.specs.Sph.{sphLines}
-use Rattle.layout.specs.Entries.{Entry, eqZ, headerNumber, numDataSets, entries, dsdsAt, dsdAt, dsdBytes, entryOf, entryAt, directory, at, start, extent, nonEmpty, isData, isReference, allZero, inRange, setFits, numbersFit}
-use Rattle.layout.specs.Rules.{linesOf, rule7At, rule7, rule8At, rule8, rule9At, rule9, rule10At, rule10, dataSets, rule11, rule12At, rule12, rule13At, rule13, rule14At, rule14, rules7to14}
-use Rattle.layout.proofs.Laws.{accepted≢refused, need-accepts, orElse-accepts, orElse-assoc, first-accepts-0}
+use Rattle.layout.specs.Entries.{Entry, eqZ, headerNumber, numDataSets, headersEnd, entries, dsdsAt, dsdAt, dsdBytes, entryOf, entryFrom, entriesFrom, entryAt, directory, at, start, extent, nonEmpty, isData, isReference, allZero, inRange, setFits, numbersFit}
+use Rattle.layout.specs.Rules.{linesOf, rule7At, rule7, rule8At, rule8, rule9At, rule9, rule10At, rule10, rule11, rule12, rule13, rule14, rules7to14}
+use Rattle.layout.proofs.Laws.{accepted≢refused, need-accepts, orElse-accepts, orElse-assoc, first-accepts-0, first-found, find-bounds}
 use Rattle.layout.proofs.Padded.{padded-at}
 use Rattle.layout.proofs.Sound.{length-directory, at-directory, entry-at}
+use Rattle.layout.proofs.Tests.{is-true}
 use Rattle.layout.proofs.Types.{laidOut-typed}
 use Rattle.text.specs.Numbers.{numberIn}
 use Rattle.text.specs.declared.Number.{Number as HeldNumber}
 use Rattle.placement.specs.Sets.{Held}
-use Rattle.dsd.specs.Held.{numberFrom}
-use Rattle.directory.specs.Checks.{setsOf, Headers, Dsds, ReadAll, Checked}
+use Rattle.dsd.specs.Held.{numberFrom, heldOf, viewOf, overPlace, Read}
+use Rattle.dsd.specs.declared.Entry.{Entry as HeldEntry}
+use Rattle.dsd.proofs.Views.{turn-held, over-held}
+use Rattle.directory.specs.Numbers.{setsOf, heldSets}
+use Rattle.directory.specs.Checks.{Headers, Dsds, overAt, unfitAt, Counted, textRules, numberRules, placeRules, Placed, closed, Checked}
+use Rattle.directory.specs.declared.DirectoryCheck.{DirectoryCheck}
+use Rattle.directory.proofs.Turns.{place, nine}
+use Rattle.directory.proofs.Held.{not-over, held-same}
 use Rattle.directory.specs.declared.Sets.{Sets}
 use Rattle.directory.specs.declared.Reading.{Reading}
 use Rattle.dsd.proofs.Numbers.{is-zero, above, from-zero, equals, both-pass}
@@ -58,14 +68,6 @@ module _ (b : List ℕ) (dsds n : ℕ) (placed : Dsds b dsds n) where
   pub eight-all : (m : ℕ) → rule8 b m ≡ first (rule8At b) 0 n
   unfolding rule8
   eight-all m = ap (first (rule8At b) 0) (sym (placed .all))
-
-  nine-all : (m : ℕ) → rule9 b m ≡ first (rule9At b) 0 n
-  unfolding rule9
-  nine-all m = ap (first (rule9At b) 0) (sym (placed .all))
-
-  ten-all : (m : ℕ) → rule10 b m ≡ first (rule10At b) 0 n
-  unfolding rule10
-  ten-all m = ap (first (rule10At b) 0) (sym (placed .all))
 
   length-all : length (directory b) ≡ n
   length-all = length-directory b ∙ sym (placed .all)
@@ -141,11 +143,7 @@ module _ (b : List ℕ) (sets : Sets) (read : sets ≡ setsOf (directory b)) (m 
       let k : i < entries b = omega (arith, length-directory b) in
       let laid = first-accepts-0 (rule8At b) (entries b) .0 eight i k in
       let fit = need-accepts (numbersFit (entryAt b i)) 10 (dsdAt b i) i .0 (first-accepts-0 (rule10At b) (entries b) .0 ten i k) in
-      rw (at-directory b i k) (sized (entryAt b i) (true-of (numbersFit (entryAt b i)) fit) (rw (entry-at b i) (laidOut-sized (dsdBytes b i) 8 i (dsdAt b i) laid)))
-    where
-      true-of : (t : Bool) → T t → t ≡ true
-      true-of true h = refl
-      true-of false h = absurd h
+      rw (at-directory b i k) (sized (entryAt b i) (is-true (numbersFit (entryAt b i)) fit) (rw (entry-at b i) (laidOut-sized (dsdBytes b i) 8 i (dsdAt b i) laid)))
 
   pub held : Held (directory b) (sets .offsets) (sets .sizes)
   unfolding setsOf
@@ -156,77 +154,131 @@ module _ (b : List ℕ) (sets : Sets) (read : sets ≡ setsOf (directory b)) (m 
         filled = entry-sized;
       }
 
+-- ---- rules 9 to 11, by what a reading counts
+
+module _ (b : List ℕ) (dsds n : ℕ) (placed : Dsds b dsds n) (r : Reading) (counted : Counted (directory b) r) (m : ℕ) where
+  twice : (t : Bool) → t ≡ not (not t)
+  twice true = refl
+  twice false = refl
+
+  nine-by : rule9 b m ≡ need (eqb (r .within) n) 9 (dsds + 280 * r .within + overPlace (entryAt b (r .within))) (r .within)
+  unfolding rule9 overAt
+  nine-by =
+      first-found (overAt (directory b)) (rule9At b) 9 0 (entries b) (λ j. dsdAt b j + overPlace (entryAt b j))
+      (λ j l u. nine b j ∙ rw (at-directory b j (omega arith), ← twice (eqb (overPlace (entryAt b j)) 0)))
+      ∙ rw (zero-add (entries b), ← length-directory b, ← counted .nine, length-all b dsds n placed, place b dsds n (r .within) placed)
+
+  module _ (none : r .within ≡ n) where
+    not-over-at : (j : ℕ) → j < entries b → overPlace (viewOf (heldOf (entryAt b j))) ≡ 0
+    not-over-at j l =
+        rw (at-directory b j l) at
+        (not-over (directory b) (sym (counted .nine) ∙ none ∙ sym (length-all b dsds n placed)) j (omega (arith, length-directory b)))
+
+    ten-by : rule10 b m ≡ need (eqb (r .fitting) n) 10 (dsds + 280 * r .fitting) (r .fitting)
+    unfolding rule10 rule10At unfitAt
+    ten-by =
+        first-found (unfitAt (directory b)) (rule10At b) 10 0 (entries b) (dsdAt b)
+        (λ j l u. rw (at-directory b j (omega arith), turn-held (entryAt b j) (not-over-at j (omega arith)) .fits, ← twice (numbersFit (entryAt b j))))
+        ∙ rw (zero-add (entries b), ← length-directory b, ← counted .ten, length-all b dsds n placed, place b dsds n (r .fitting) placed)
+
+    -- the numbers held are those of the directory
+    pub numbers-are : heldSets (directory b) ≡ setsOf (directory b)
+    numbers-are = held-same (directory b) (sym (counted .nine) ∙ none ∙ sym (length-all b dsds n placed))
+
+    pub ten-stops : (r .fitting ≡ n → ⊥) → numberRules b m ≡ refused 10 (dsds + 280 * r .fitting) (r .fitting)
+    unfolding numberRules
+    ten-stops h = rw (nine-by, eq-eqb (r .within) n none, ten-by, ne-eqb (r .fitting) n h)
+
+    pub eleven-left : r .fitting ≡ n → numberRules b m ≡ need (eqZ (whole (numDataSets b)) (pos (r .counted))) 11 1194 128
+    unfolding numberRules rule11
+    eleven-left h = rw (nine-by, eq-eqb (r .within) n none, ten-by, eq-eqb (r .fitting) n h, ← counted .eleven)
+
+  pub within-most : r .within ≤ n
+  within-most = rw (counted .nine) (omega (arith, find-bounds (overAt (directory b)) 0 (length (directory b)) .1, length-all b dsds n placed))
+
+  pub fitting-most : r .fitting ≤ n
+  fitting-most = rw (counted .ten) (omega (arith, find-bounds (unfitAt (directory b)) 0 (length (directory b)) .1, length-all b dsds n placed))
+
+  pub nine-stops : (r .within ≡ n → ⊥) → numberRules b m ≡ refused 9 (dsds + 280 * r .within + overPlace (entryAt b (r .within))) (r .within)
+  unfolding numberRules
+  nine-stops h = rw (nine-by, ne-eqb (r .within) n h)
+
+  -- where they accept, no number is over
+  pub none-over : numberRules b m ≡ accepted → r .within ≡ n
+  unfolding numberRules
+  none-over h =
+      let nine-ok = orElse-accepts (rule9 b m) (rule10 b m orElse rule11 b m) .0 h .0 in
+      eqb→eq (r .within) n (need-accepts (eqb (r .within) n) 9 (dsds + 280 * r .within + overPlace (entryAt b (r .within))) (r .within) .0 (sym nine-by ∙ nine-ok))
+
+-- the entry in which a number is over, read anew
+pub over-place : (b : List ℕ) (dsds n i : ℕ) → Dsds b dsds n → (h : HeldEntry) → Read b (dsds + 280 * i) h → overPlace (viewOf h) ≡ overPlace (entryAt b i)
+unfolding entryAt entryFrom
+over-place b dsds n i placed h read =
+    ap (λ (x : HeldEntry). overPlace (viewOf x)) (read .is) ∙ over-held (entryOf (part b (dsds + 280 * i) 280)) ∙ ap (λ (k : ℕ). overPlace (entryOf (part b (k + 280 * i) 280))) (placed .begin)
+
 -- ---- the rules in their order
 
+told : (v : Verdict) (r : Refusal) (a : Answer) → v ≡ Refused r → verdictIs v ≡ a → a ≡ refused (r .number) (r .place) (r .entry)
+unfolding verdictIs
+told v r a q h = sym h ∙ rw q
+
+pub accepts : (v : Verdict) (a : Answer) → v ≡ Accepted → verdictIs v ≡ a → a ≡ accepted
+unfolding verdictIs
+accepts v a q h = sym h ∙ rw q
+
 module _ (b : List ℕ) (n : ℕ) where
-  abbrev text : Answer
-  text = rule7 b n orElse rule8 b n
-
-  abbrev numbers : Answer
-  numbers = rule10 b n orElse rule11 b n
-
   abbrev places : Answer
-  places = rule12 b n orElse (rule13 b n orElse rule14 b n)
+  places = placeRules (directory b) (headersEnd b) n
 
-  rules-split : rules7to14 b n ≡ (text orElse (rule9 b n orElse (numbers orElse places)))
-  unfolding rules7to14
-  rules-split =
-      sym
-      (orElse-assoc (rule7 b n) (rule8 b n) (rule9 b n orElse (numbers orElse places))
-      ∙ ap (λ (a : Answer). rule7 b n orElse (rule8 b n orElse (rule9 b n orElse a))) (orElse-assoc (rule10 b n) (rule11 b n) places))
+  rules-split : rules7to14 b n ≡ (textRules b n orElse (numberRules b n orElse places))
+  unfolding rules7to14 textRules numberRules placeRules rule12 rule13 rule14
+  rules-split = sym (simp orElse-assoc)
 
-  -- a verdict that refuses
-  pub stopped : (r : Verdict) (sets : Sets) {m p e : ℕ} → rules7to14 b n ≡ refused m p e → verdictIs r ≡ refused m p e → Checked b n r sets
-  stopped r sets q h = record { verdict = h ∙ sym q; read = λ a. absurd (accepted≢refused (sym a ∙ q)) }
+  -- a check that refuses
+  stopped : (r : Refusal) (x : DirectoryCheck) → x ≡ closed r → rules7to14 b n ≡ refused (r .number) (r .place) (r .entry) → Checked b n x
+  unfolding verdictIs
+  stopped r x q h = rw q (record { verdict = sym h; read = λ a. absurd (accepted≢refused (sym a ∙ h)) })
 
-  module _ {m p e : ℕ} where
-    pub stop-text : refused m p e ≡ text → rules7to14 b n ≡ refused m p e
-    stop-text h = rules-split ∙ rw (← h)
+  pub text-refused : (r : Refusal) (x : DirectoryCheck) → x ≡ closed r → (v : Verdict) → v ≡ Refused r → verdictIs v ≡ textRules b n → Checked b n x
+  text-refused r x q v h t = stopped r x q (rules-split ∙ rw (told v r (textRules b n) h t))
 
-    module _ (a : text ≡ accepted) where
-      pub stop-over : refused m p e ≡ rule9 b n → rules7to14 b n ≡ refused m p e
-      stop-over h = rules-split ∙ rw (a, ← h)
+  module _ (text : textRules b n ≡ accepted) where
+    pub numbers-refused : (r : Refusal) (x : DirectoryCheck) → x ≡ closed r → (v : Verdict) → v ≡ Refused r → verdictIs v ≡ numberRules b n → Checked b n x
+    numbers-refused r x q v h t = stopped r x q (rules-split ∙ rw (text, told v r (numberRules b n) h t))
 
-      module _ (o : rule9 b n ≡ accepted) where
-        pub stop-numbers : refused m p e ≡ numbers → rules7to14 b n ≡ refused m p e
-        stop-numbers h = rules-split ∙ rw (a, o, ← h)
+    module _ (numbers : numberRules b n ≡ accepted) where
+      pub places-refused : (r : Refusal) (x : DirectoryCheck) → x ≡ closed r → (v : Verdict) → v ≡ Refused r → verdictIs v ≡ places → Checked b n x
+      places-refused r x q v h t = stopped r x q (rules-split ∙ rw (text, numbers, told v r places h t))
 
-  -- the last verdict, of rules 12 to 14
-  pub passed : (r : Verdict) (sets : Sets) → text ≡ accepted → rule9 b n ≡ accepted → numbers ≡ accepted → verdictIs r ≡ places → sets ≡ setsOf (directory b) → Checked b n r sets
-  passed r sets a o k h s = record { verdict = h ∙ sym (rules-split ∙ rw (a, o, k)); read = λ q. s }
+      pub all-passed : (sets : Sets) → sets ≡ setsOf (directory b) → places ≡ accepted → Checked b n (record { verdict = Accepted; sets = sets })
+      unfolding verdictIs
+      all-passed sets q t = record { verdict = sym (rules-split ∙ rw (text, numbers, t)); read = λ a. q }
 
--- ---- what a reading gives of rules 9 to 11, and the numbers of rules 12 to 14
-
-module _ (b : List ℕ) (n dsds k : ℕ) (placed : Dsds b dsds k) (r : Reading) (sets : Sets) (read : ReadAll b dsds k r sets) where
-  pub by-over : verdictIs (r .over) ≡ rule9 b n
-  by-over = read .nine ∙ sym (nine-all b dsds k placed n)
-
-  module _ (ok : rule9 b n ≡ accepted) where
-    nine-ok : first (rule9At b) 0 k ≡ accepted
-    nine-ok = sym (nine-all b dsds k placed n) ∙ ok
-
-    pub by-numbers : (need (eqb (r .fitting) k) 10 (dsds + 280 * r .fitting) (r .fitting) orElse need (eqZ (whole (numDataSets b)) (pos (r .counted))) 11 1194 128) ≡ (rule10 b n orElse rule11 b n)
-    unfolding rule11 dataSets
-    by-numbers = rw (ten-all b dsds k placed n, read .ten nine-ok, length-all b dsds k placed, ← read .eleven nine-ok)
-
-    pub by-sets : sets ≡ setsOf (directory b)
-    by-sets = read .read nine-ok
+-- ---- what check_sets goes by: a reading of the DSDs, and what rules 12 to 14 are answered of its numbers
 
 module _ (b : List ℕ) (n end k : ℕ) (headers : Headers b end k) where
-  pub by-places : (first (rule12At (directory b) end n) 0 k orElse (first (rule13At (directory b)) 0 k orElse first (rule14At (directory b)) end (n - end))) ≡ (rule12 b n orElse (rule13 b n orElse rule14 b n))
-  unfolding rule12 rule13 rule14
-  by-places = rw (length-directory b, ← headers .ends, ← headers .all)
+  abbrev dsds : ℕ
+  dsds = end - 280 * k
 
--- ---- what is told to the last checks
+  pub the-directory : entriesFrom b dsds k ≡ directory b
+  unfolding directory
+  the-directory = rw (← dsds-of headers .begin, ← headers .all)
 
-module _ (b : List ℕ) (n end k : ℕ) (headers : Headers b end k) (r : Reading) (sets : Sets) (read : ReadAll b (end - 280 * k) k r sets) where
-  -- v is what rules 12 to 14 are answered of the numbers read
-  pub by-held : {v : Answer} → (rule7 b n orElse rule8 b n) ≡ accepted → rule9 b n ≡ accepted → (rule10 b n orElse rule11 b n) ≡ accepted
-      → ((ds : List Entry) → Held ds (sets .offsets) (sets .sizes) → length ds ≡ k
-      → v ≡ (first (rule12At ds end n) 0 k orElse (first (rule13At ds) 0 k orElse first (rule14At ds) end (n - end))))
-      → v ≡ (rule12 b n orElse (rule13 b n orElse rule14 b n))
-  by-held a o m h =
-      h (directory b)
-      (held b sets (by-sets b n (end - 280 * k) k (dsds-of headers) r sets read o) n (orElse-accepts (rule7 b n) (rule8 b n) .0 a .1) (orElse-accepts (rule10 b n) (rule11 b n) .0 m .0))
-      (length-all b (end - 280 * k) k (dsds-of headers))
-      ∙ by-places b n end k headers
+  module _ (r : Reading) (counted : Counted (entriesFrom b dsds k) r) where
+    pub of-directory : Counted (directory b) r
+    of-directory = subst (λ (ds : List Entry). Counted ds r) the-directory counted
+
+    module _ (text : textRules b n ≡ accepted) (numbers : numberRules b n ≡ accepted) (sets : Sets) (held-are : sets ≡ heldSets (entriesFrom b dsds k)) where
+      pub numbers-read : sets ≡ setsOf (directory b)
+      numbers-read =
+          held-are
+          ∙ ap heldSets the-directory
+          ∙ numbers-are b dsds k (dsds-of headers) r of-directory n (none-over b dsds k (dsds-of headers) r of-directory n numbers)
+
+      pub places-are : (v : Verdict) → Placed (sets .offsets) (sets .sizes) k end n v → verdictIs v ≡ placeRules (directory b) (headersEnd b) n
+      unfolding textRules numberRules
+      places-are v p =
+          let eight = orElse-accepts (rule7 b n) (rule8 b n) .0 text .1 in
+          let ten = orElse-accepts (rule10 b n) (rule11 b n) .0 (orElse-accepts (rule9 b n) (rule10 b n orElse rule11 b n) .0 numbers .1) .0 in
+          p .answer (directory b) (held b sets numbers-read n eight ten) (length-all b dsds k (dsds-of headers))
+          ∙ ap (λ (h : ℕ). placeRules (directory b) h n) (headers .ends)

@@ -1,45 +1,24 @@
--- What the checks of the directory answer (document 01, rules 7 to 14), and the numbers of its entries held together.
+-- What the checks of the directory answer (document 01, rules 7 to 14), over the bytes at hand and the length of the product.
 -- Assumes nothing.
-use Prim.Native.Nat.{ℕ, _+_, _*_, _≤_}
-use mathlib.Core.List.{List, map}
+use Prim.Native.Nat.{ℕ, _+_, _*_, _-_, _≤_}
+use mathlib.Core.Bool.{Bool, not}
+use mathlib.Core.List.{List}
 use mathlib.Core.Path.{_≡_}
 use lib.Dec.{eqb}
-use lib.IntN.{ℤ, pos}
-use lib.ListN.{length, replicate}
-use Rattle.layout.specs.Answer.{accepted, need}
-use Rattle.layout.specs.Search.{first, count, upto}
-use Rattle.layout.specs.Entries.{Entry, headersEnd, entries, dsdsAt, entryAt, directory, start, extent}
-use Rattle.layout.specs.Rules.{rule9At, rule10At, isDataAt, rules7to14}
-use Rattle.layout.specs.Answers.{padded, typeOf, countOf, recordSizeOf, verdictIs}
-use Rattle.directory.specs.declared.Sets.{Sets}
-use Rattle.directory.specs.declared.Reading.{Reading}
+use lib.ListN.{length}
+use Rattle.layout.specs.Answer.{Answer, accepted, _orElse_}
+use Rattle.layout.specs.Search.{first, find}
+use Rattle.layout.specs.Entries.{Entry, headersEnd, entries, dsdsAt, directory, at, numbersFit}
+use Rattle.layout.specs.Rules.{rule7, rule8, rule9, rule10, dataSets, rule11, rule12At, rule13At, rule14At, rules7to14}
+use Rattle.layout.specs.Answers.{verdictIs}
+use Rattle.layout.specs.declared.Refusal.{Refusal}
 use Rattle.layout.specs.declared.Verdict.{Verdict}
-use Rattle.dsd.specs.Held.{roleOf}
-
--- ---- the numbers of a directory's entries
-
-abbrev pub together : ℕ → List ℕ → List ℕ → List ℕ → List ℕ → List ℤ → List ℕ → Sets
-together n types offsets sizes counts record-sizes roles =
-    record { entries = n; types = types; offsets = offsets; sizes = sizes; counts = counts; «record_sizes» = record-sizes; roles = roles }
-
-unfoldable pub setsOf : List Entry → Sets
-setsOf ds =
-    together
-    (length ds)
-    (padded 128 0 (map typeOf ds))
-    (padded 128 0 (map start ds))
-    (padded 128 0 (map extent ds))
-    (padded 128 0 (map countOf ds))
-    (padded 128 (pos 0) (map recordSizeOf ds))
-    (padded 128 0 (map roleOf ds))
-
-abbrev pub noSets : Sets
-noSets =
-    together 0 (replicate 128 0) (replicate 128 0) (replicate 128 0) (replicate 128 0) (replicate 128 (pos 0)) (replicate 128 0)
-
--- the first i entries
-unfoldable pub entriesTo : List ℕ → ℕ → List Entry
-entriesTo b i = map (entryAt b) (upto 0 i)
+use Rattle.layout.specs.declared.Verdict.the-variants as verdict-cases
+use Rattle.dsd.specs.Held.{overPlace, heldOf, viewOf}
+use Rattle.placement.specs.Sets.{Held}
+use Rattle.directory.specs.Numbers.{setsOf, noSets}
+use Rattle.directory.specs.declared.Reading.{Reading}
+use Rattle.directory.specs.declared.DirectoryCheck.{DirectoryCheck}
 
 -- ---- where the DSDs stand
 
@@ -59,15 +38,44 @@ pub record Dsds (b : List ℕ) (dsds n : ℕ) : Type 0 where
   pub behind : 1247 ≤ dsds
   pub inside : dsds + 280 * n ≤ length b
 
--- what one reading of the entries answers, with the numbers read; where rule 9 refuses, nothing of the numbers
-pub record ReadAll (b : List ℕ) (dsds n : ℕ) (r : Reading) (sets : Sets) : Type 0 where
-  pub nine : verdictIs (r .over) ≡ first (rule9At b) 0 n
-  pub within : r .fitting ≤ n
-  pub ten : first (rule9At b) 0 n ≡ accepted → first (rule10At b) 0 n ≡ need (eqb (r .fitting) n) 10 (dsds + 280 * r .fitting) (r .fitting)
-  pub eleven : first (rule9At b) 0 n ≡ accepted → r .counted ≡ count (isDataAt (directory b)) 0 n
-  pub read : first (rule9At b) 0 n ≡ accepted → sets ≡ setsOf (directory b)
+-- ---- what one reading of the entries counts
 
--- the check of a product of n bytes, with the numbers read; where a rule refuses, nothing of the numbers
-pub record Checked (b : List ℕ) (n : ℕ) (r : Verdict) (sets : Sets) : Type 0 where
-  pub verdict : verdictIs r ≡ rules7to14 b n
-  pub read : rules7to14 b n ≡ accepted → sets ≡ setsOf (directory b)
+-- DS_OFFSET or DS_SIZE of entry i passes 2^63 - 1 (rule 9); its numbers, as they are held, break the rules (rule 10)
+unfoldable pub overAt : List Entry → ℕ → Bool
+overAt ds i = not (eqb (overPlace (at ds i)) 0)
+
+unfoldable pub unfitAt : List Entry → ℕ → Bool
+unfitAt ds i = not (numbersFit (viewOf (heldOf (at ds i))))
+
+-- the entries in a row from the first on that neither rule refuses, and those that NUM_DATA_SETS counts (rule 11)
+pub record Counted (ds : List Entry) (r : Reading) : Type 0 where
+  pub nine : r .within ≡ find (overAt ds) 0 (length ds)
+  pub ten : r .fitting ≡ find (unfitAt ds) 0 (length ds)
+  pub eleven : r .counted ≡ dataSets ds
+
+-- ---- the rules together, as the code checks them
+
+-- rules 7 and 8, which look at text
+unfoldable pub textRules : List ℕ → ℕ → Answer
+textRules b n = rule7 b n orElse rule8 b n
+
+-- rules 9 to 11, which look at numbers
+unfoldable pub numberRules : List ℕ → ℕ → Answer
+numberRules b n = rule9 b n orElse (rule10 b n orElse rule11 b n)
+
+-- rules 12 to 14, which look at where the sets lie behind the headers' end h
+unfoldable pub placeRules : List Entry → ℕ → ℕ → Answer
+placeRules ds h n = first (rule12At ds h n) 0 (length ds) orElse (first (rule13At ds) 0 (length ds) orElse first (rule14At ds) h (n - h))
+
+-- v is what they answer of all entries whose offsets and sizes are these
+pub record Placed (offsets sizes : List ℕ) (k h n : ℕ) (v : Verdict) : Type 0 where
+  pub answer : (ds : List Entry) → Held ds offsets sizes → length ds ≡ k → verdictIs v ≡ placeRules ds h n
+
+-- a refusal, and nothing beside it
+abbrev pub closed : Refusal → DirectoryCheck
+closed r = record { verdict = verdict-cases.Refused r; sets = noSets }
+
+-- the check of a product of n bytes, with its numbers; where a rule refuses, nothing of the numbers
+pub record Checked (b : List ℕ) (n : ℕ) (r : DirectoryCheck) : Type 0 where
+  pub verdict : verdictIs (r .verdict) ≡ rules7to14 b n
+  pub read : rules7to14 b n ≡ accepted → r .sets ≡ setsOf (directory b)

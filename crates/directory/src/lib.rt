@@ -1,23 +1,23 @@
 // The directory of a product (document 01, rules 7 to 14): the numbers of its entries, what is asked of them, and what is answered of all.
 use dsd::Entry;
+use layout::Directory;
+use layout::Refusal;
 use layout::Verdict;
+use writing::put_text;
+ghost use mathlib.Core.Bool.{cond};
 ghost use mathlib.Core.Path.{_≡_};
-ghost use Prim.Native.Nat.{ℕ, _+_, _*_, _-_, _≤_};
-ghost use lib.Dec.{eqb};
-ghost use lib.IntN.{pos};
-ghost use lib.ListN.{length, replicate};
-ghost use lib.Seq.{paste};
-ghost use mathlib.Core.List.{List, map};
-ghost use Rattle.layout.specs.Answer.{accepted, refused, need, _orElse_};
-ghost use Rattle.layout.specs.Answers.{verdictIs, padded, nameOf, filenameOf, directoryOf};
-ghost use Rattle.layout.specs.Bytes.{part};
-ghost use Rattle.layout.specs.Entries.{Entry as LayoutEntry, eqZ, numDataSets, directory};
+ghost use Prim.Native.Nat.{ℕ, _+_, _*_, _≤_, _<_};
+ghost use lib.Dec.{ltb};
+ghost use lib.ListN.{length};
+ghost use Rattle.layout.specs.Answer.{accepted};
+ghost use Rattle.layout.specs.Answers.{verdictIs};
+ghost use Rattle.layout.specs.Entries.{entriesFrom, directory};
 ghost use Rattle.layout.specs.Lines.{sizeOfDsd};
-ghost use Rattle.layout.specs.Rules.{rule7, rule8At, rule8, rule12At, rule13At, rule14At};
-ghost use Rattle.layout.specs.Search.{first, join};
-ghost use Rattle.layout.specs.Text.{whole};
-ghost use Rattle.placement.specs.Sets.{Held};
-ghost use Rattle.directory.specs.Checks.{together, setsOf, noSets, Headers, Dsds, ReadAll, Checked};
+ghost use Rattle.layout.specs.Rules.{rule8At};
+ghost use Rattle.layout.specs.Search.{first};
+ghost use Rattle.directory.specs.Numbers.{together, noSets, heldSets, directoryWith};
+ghost use Rattle.directory.specs.Texts.{textsFrom, Room};
+ghost use Rattle.directory.specs.Checks.{Headers, Dsds, Counted, textRules, numberRules, Placed, Checked, closed};
 
 // The numbers and roles of up to 128 entries held together, unused places zero.
 pub struct Sets {
@@ -86,76 +86,10 @@ fn check_dsds(p: &[u8], dsds: usize, entries: usize) -> Verdict
     Verdict::Accepted
 }
 
-// What one reading of the entries gives: rule 9's verdict and, where it accepts, how many entries in a row have numbers that fit (rule 10) and how many
-// are counted (rule 11).
-struct Reading {
-    over: Verdict,
-    fitting: usize,
-    counted: usize,
-}
-
-fn over_reading(place: usize, entry: usize) -> Reading
-    ensures { λ r. ⌜ (verdictIs (r .over) ≡ refused 9 place entry) × (r .fitting ≡ 0) ⌝ }
-{
-    Reading {
-        over: Verdict::refuse(9, place as u64, entry),
-        fitting: 0,
-        counted: 0,
-    }
-}
-
-fn full_reading(fitting: usize, counted: usize) -> Reading
-    ensures { λ r. ⌜ (verdictIs (r .over) ≡ accepted) × (r .fitting ≡ fitting) × (r .counted ≡ counted) ⌝ }
-{
-    Reading {
-        over: Verdict::Accepted,
-        fitting,
-        counted,
-    }
-}
-
-// One reading of the entries. The arrays are lent: one that a call answers is copied at each return.
-fn read_sets(
-    p: &[u8],
-    dsds: usize,
-    entries: usize,
-    types: &mut [u8; 128],
-    offsets: &mut [u64; 128],
-    sizes: &mut [u64; 128],
-    counts: &mut [u64; 128],
-    record_sizes: &mut [i64; 128],
-    roles: &mut [u8; 128],
-) -> Reading
-    requires { ⌜ Dsds (now p) dsds entries × (together 0 (now types) (now offsets) (now sizes) (now counts) (now «record_sizes») (now roles) ≡ noSets) ⌝ }
-    ensures { λ r. ⌜ ReadAll (now (p .entry)) dsds entries r (together entries (now (types .exit)) (now (offsets .exit)) (now (sizes .exit)) (now (counts .exit)) (now («record_sizes» .exit)) (now (roles .exit))) ⌝ }
-{
-    let mut fitting = 0;
-    let mut counted = 0;
-    let mut i = 0;
-    while i < entries {
-        let start = dsds + Entry::SIZE * i;
-        let entry = Entry::at(p, start);
-        let over = entry.over();
-        if over != 0 {
-            return over_reading(start + over, i);
-        }
-        types[i] = entry.ds_type;
-        offsets[i] = entry.offset.magnitude;
-        sizes[i] = entry.size.magnitude;
-        counts[i] = entry.count.magnitude;
-        record_sizes[i] = entry.record_size.whole();
-        roles[i] = entry.role();
-        fitting = entry.fitting_with(fitting, i);
-        counted = entry.counted_with(counted);
-        i += 1;
-    }
-    full_reading(fitting, counted)
-}
-
 // Rules 7 and 8: the SPH lines before the DSDs, and the DSDs.
 fn check_text(p: &[u8], dsds: usize, entries: usize) -> Verdict
     requires { ⌜ Dsds (now p) dsds entries ⌝ }
-    ensures { λ r. ⌜ ((n : ℕ) → verdictIs r ≡ (rule7 (now (p .entry)) n orElse rule8 (now (p .entry)) n)) ⌝ }
+    ensures { λ r. ⌜ ((n : ℕ) → verdictIs r ≡ textRules (now (p .entry)) n) ⌝ }
 {
     let bad = sph::first_bad_line(p, dsds);
     if bad != dsds {
@@ -164,11 +98,80 @@ fn check_text(p: &[u8], dsds: usize, entries: usize) -> Verdict
     check_dsds(p, dsds, entries)
 }
 
-// Rules 10 and 11, by what a reading gives.
-fn check_numbers(p: &[u8], dsds: usize, entries: usize, fitting: usize, counted: usize) -> Verdict
-    requires { ⌜ Dsds (now p) dsds entries × (fitting ≤ entries) ⌝ }
-    ensures { λ r. ⌜ verdictIs r ≡ (need (eqb fitting entries) 10 (dsds + sizeOfDsd * fitting) fitting orElse need (eqZ (whole (numDataSets (now (p .entry)))) (pos counted)) 11 1194 128) ⌝ }
+// What one reading of the entries counts: how many in a row from the first on have an offset and a size within 2^63 - 1 (rule 9), how many in a row
+// have numbers that fit (rule 10), and how many NUM_DATA_SETS counts (rule 11).
+struct Reading {
+    within: usize,
+    fitting: usize,
+    counted: usize,
+}
+
+// How many entries in a row from the first on pass, if `row` of those before entry `i` do.
+fn row_with(row: usize, i: usize, passes: bool) -> usize
+    requires { ⌜ i < 128 ⌝ }
+    ensures { λ r. ⌜ r ≡ cond (ltb row i) row (cond passes (i + 1) i) ⌝ }
 {
+    if row < i {
+        return row;
+    }
+    if passes {
+        return i + 1;
+    }
+    i
+}
+
+// One reading of n DSDs from a place on, whatever their bytes are. The arrays are lent: one that a call answers is copied at each return.
+fn read_sets(
+    p: &[u8],
+    from: usize,
+    n: usize,
+    types: &mut [u8; 128],
+    offsets: &mut [u64; 128],
+    sizes: &mut [u64; 128],
+    counts: &mut [u64; 128],
+    record_sizes: &mut [i64; 128],
+    roles: &mut [u8; 128],
+) -> Reading
+    requires { ⌜ (from + sizeOfDsd * n ≤ length (now p)) × (n ≤ 128) × (together 0 (now types) (now offsets) (now sizes) (now counts) (now «record_sizes») (now roles) ≡ noSets) ⌝ }
+    ensures counted { λ r. ⌜ Counted (entriesFrom (now (p .entry)) from n) r ⌝ }
+    ensures held { λ r. ⌜ together n (now (types .exit)) (now (offsets .exit)) (now (sizes .exit)) (now (counts .exit)) (now («record_sizes» .exit)) (now (roles .exit)) ≡ heldSets (entriesFrom (now (p .entry)) from n) ⌝ }
+{
+    let mut within = 0;
+    let mut fitting = 0;
+    let mut counted = 0;
+    let mut i = 0;
+    while i < n {
+        let entry = Entry::at(p, from + Entry::SIZE * i);
+        types[i] = entry.ds_type;
+        offsets[i] = entry.offset.magnitude;
+        sizes[i] = entry.size.magnitude;
+        counts[i] = entry.count.magnitude;
+        record_sizes[i] = entry.record_size.whole();
+        roles[i] = entry.role();
+        within = row_with(within, i, entry.over() == 0);
+        fitting = row_with(fitting, i, entry.numbers_fit());
+        counted = entry.counted_with(counted);
+        i += 1;
+    }
+    Reading {
+        within,
+        fitting,
+        counted,
+    }
+}
+
+// Rules 9 to 11, by what a reading counts.
+fn check_numbers(p: &[u8], dsds: usize, entries: usize, reading: Reading) -> Verdict
+    requires { ⌜ Dsds (now p) dsds entries × Counted (directory (now p)) reading ⌝ }
+    ensures { λ r. ⌜ ((n : ℕ) → verdictIs r ≡ numberRules (now (p .entry)) n) ⌝ }
+{
+    let within = reading.within;
+    if within != entries {
+        let start = dsds + Entry::SIZE * within;
+        let entry = Entry::at(p, start);
+        return Verdict::refuse(9, (start + entry.over()) as u64, within);
+    }
+    let fitting = reading.fitting;
     if fitting != entries {
         return Verdict::refuse(10, (dsds + Entry::SIZE * fitting) as u64, fitting);
     }
@@ -176,7 +179,7 @@ fn check_numbers(p: &[u8], dsds: usize, entries: usize, fitting: usize, counted:
     if dsd::is_negative(data_sets) {
         return Verdict::refuse(11, 1194, 128);
     }
-    if data_sets.magnitude != counted as u64 {
+    if data_sets.magnitude != reading.counted as u64 {
         return Verdict::refuse(11, 1194, 128);
     }
     Verdict::Accepted
@@ -191,7 +194,7 @@ fn check_places<'a>(
     length: u64,
 ) -> Verdict
     requires { ⌜ entries ≤ 128 ⌝ }
-    ensures { λ r. ⌜ ((ds : List LayoutEntry) → Held ds (now (offsets .entry)) (now (sizes .entry)) → lib.ListN.length ds ≡ entries → verdictIs r ≡ (first (rule12At ds «headers_end» length) 0 entries orElse (first (rule13At ds) 0 entries orElse first (rule14At ds) «headers_end» (length - «headers_end»)))) ⌝ }
+    ensures { λ r. ⌜ Placed (now (offsets .entry)) (now (sizes .entry)) entries «headers_end» length r ⌝ }
 {
     let outside = placement::first_outside(offsets, sizes, entries, headers_end, length);
     if outside != entries {
@@ -208,122 +211,91 @@ fn check_places<'a>(
     Verdict::Accepted
 }
 
-// Rules 9 to 14, of a product that meets rules 7 and 8, its numbers read into arrays of zeros.
-fn check_sets(
-    p: &[u8],
-    length: u64,
-    headers_end: usize,
-    entries: usize,
-    types: &mut [u8; 128],
-    offsets: &mut [u64; 128],
-    sizes: &mut [u64; 128],
-    counts: &mut [u64; 128],
-    record_sizes: &mut [i64; 128],
-    roles: &mut [u8; 128],
-) -> Verdict
-    requires { ⌜ Headers (now p) «headers_end» entries × ((rule7 (now p) length orElse rule8 (now p) length) ≡ accepted) × (together 0 (now types) (now offsets) (now sizes) (now counts) (now «record_sizes») (now roles) ≡ noSets) ⌝ }
-    ensures { λ r. ⌜ Checked (now (p .entry)) length r (together entries (now (types .exit)) (now (offsets .exit)) (now (sizes .exit)) (now (counts .exit)) (now («record_sizes» .exit)) (now (roles .exit))) ⌝ }
+// The check of a directory: the verdict and, where it accepts, its numbers.
+pub struct DirectoryCheck {
+    pub verdict: Verdict,
+    pub sets: Sets,
+}
+
+fn refused_check(refusal: Refusal) -> DirectoryCheck
+    ensures { λ r. ⌜ r ≡ closed refusal ⌝ }
 {
+    DirectoryCheck {
+        verdict: Verdict::Refused(refusal),
+        sets: Sets::none(),
+    }
+}
+
+// Rules 9 to 14, of a product of `length` bytes that meets rules 7 and 8. Its numbers are read once, into arrays made here.
+fn check_sets(p: &[u8], length: u64, headers_end: usize, entries: usize) -> DirectoryCheck
+    requires { ⌜ Headers (now p) «headers_end» entries × (textRules (now p) length ≡ accepted) ⌝ }
+    ensures { λ r. ⌜ Checked (now (p .entry)) length r ⌝ }
+{
+    let mut types = [0u8; 128];
+    let mut offsets = [0u64; 128];
+    let mut sizes = [0u64; 128];
+    let mut counts = [0u64; 128];
+    let mut record_sizes = [0i64; 128];
+    let mut roles = [0u8; 128];
     let dsds = headers_end - Entry::SIZE * entries;
     let reading = read_sets(
         p,
         dsds,
         entries,
-        types,
-        offsets,
-        sizes,
-        counts,
-        record_sizes,
-        roles,
+        &mut types,
+        &mut offsets,
+        &mut sizes,
+        &mut counts,
+        &mut record_sizes,
+        &mut roles,
     );
-    let over = reading.over;
-    if let Verdict::Refused(refusal) = over {
-        return Verdict::Refused(refusal);
-    }
-    let numbers = check_numbers(p, dsds, entries, reading.fitting, reading.counted);
+    let numbers = check_numbers(p, dsds, entries, reading);
     if let Verdict::Refused(refusal) = numbers {
-        return Verdict::Refused(refusal);
+        return refused_check(refusal);
     }
-    check_places(offsets, sizes, entries, headers_end as u64, length)
+    let places = check_places(&offsets, &sizes, entries, headers_end as u64, length);
+    if let Verdict::Refused(refusal) = places {
+        return refused_check(refusal);
+    }
+    DirectoryCheck {
+        verdict: Verdict::Accepted,
+        sets: Sets::of(entries, types, offsets, sizes, counts, record_sizes, roles),
+    }
 }
 
-// Rules 7 to 14, of a product of `length` bytes whose headers are at hand. The arrays of zeros that are lent get its numbers.
-pub fn check_directory(
-    p: &[u8],
-    length: u64,
-    headers_end: usize,
-    entries: usize,
-    types: &mut [u8; 128],
-    offsets: &mut [u64; 128],
-    sizes: &mut [u64; 128],
-    counts: &mut [u64; 128],
-    record_sizes: &mut [i64; 128],
-    roles: &mut [u8; 128],
-) -> Verdict
-    requires { ⌜ Headers (now p) «headers_end» entries × (together 0 (now types) (now offsets) (now sizes) (now counts) (now «record_sizes») (now roles) ≡ noSets) ⌝ }
-    ensures { λ r. ⌜ Checked (now (p .entry)) length r (together entries (now (types .exit)) (now (offsets .exit)) (now (sizes .exit)) (now (counts .exit)) (now («record_sizes» .exit)) (now (roles .exit))) ⌝ }
+// Rules 7 to 14, of a product of `length` bytes whose headers are at hand.
+pub fn check_directory(p: &[u8], length: u64, headers_end: usize, entries: usize) -> DirectoryCheck
+    requires { ⌜ Headers (now p) «headers_end» entries ⌝ }
+    ensures { λ r. ⌜ Checked (now (p .entry)) length r ⌝ }
 {
     let text = check_text(p, headers_end - Entry::SIZE * entries, entries);
     if let Verdict::Refused(refusal) = text {
-        return Verdict::Refused(refusal);
+        return refused_check(refusal);
     }
-    check_sets(
-        p,
-        length,
-        headers_end,
-        entries,
-        types,
-        offsets,
-        sizes,
-        counts,
-        record_sizes,
-        roles,
-    )
+    check_sets(p, length, headers_end, entries)
 }
 
-// `width` bytes from `from` on go to `to`.
-fn copy_bytes(p: &[u8], from: usize, width: usize, out: &mut [u8], to: usize)
-    requires { ⌜ (from + width ≤ length (now p)) × (to + width ≤ length (now out)) ⌝ }
-    ensures { λ r. ⌜ now (out .exit) ≡ paste (now (out .entry)) to (part (now (p .entry)) from width) width ⌝ }
+// A text of each of n DSDs, from `place` on in the DSD and `width` bytes wide, one after the other into zeros.
+fn copy_texts(p: &[u8], dsds: usize, n: usize, place: usize, width: usize, out: &mut [u8])
+    requires { ⌜ Room (now p) dsds n place width (now out) ⌝ }
+    ensures { λ _. ⌜ now (out .exit) ≡ textsFrom (now (p .entry)) dsds n place width (length (now (out .entry))) ⌝ }
 {
+    let mut next = 0;
     let mut i = 0;
-    while i < width {
-        out[to + i] = p[from + i];
+    while i < n {
+        let start = dsds + Entry::SIZE * i + place;
+        let end = start + width;
+        next = put_text(out, next, &p[start..end]);
         i += 1;
     }
 }
 
-// The names, 28 bytes an entry, into zeros.
-fn copy_names(p: &[u8], dsds: usize, entries: usize, names: &mut [u8; 3584])
-    requires { ⌜ Dsds (now p) dsds entries × (now names ≡ replicate 3584 0) ⌝ }
-    ensures { λ r. ⌜ now (names .exit) ≡ padded 3584 0 (join (map nameOf (directory (now (p .entry))))) ⌝ }
-{
-    let mut i = 0;
-    while i < entries {
-        copy_bytes(p, dsds + Entry::SIZE * i + 9, 28, names, 28 * i);
-        i += 1;
-    }
-}
-
-// The FILENAMEs, 62 bytes an entry, into zeros.
-fn copy_filenames(p: &[u8], dsds: usize, entries: usize, filenames: &mut [u8; 7936])
-    requires { ⌜ Dsds (now p) dsds entries × (now filenames ≡ replicate 7936 0) ⌝ }
-    ensures { λ r. ⌜ now (filenames .exit) ≡ padded 7936 0 (join (map filenameOf (directory (now (p .entry))))) ⌝ }
-{
-    let mut i = 0;
-    while i < entries {
-        copy_bytes(p, dsds + Entry::SIZE * i + 59, 62, filenames, 62 * i);
-        i += 1;
-    }
-}
-
-// The directory whose numbers are at hand.
-pub fn read_directory(p: &[u8], headers_end: usize, sets: Sets) -> layout::Directory
-    requires { ⌜ Headers (now p) «headers_end» (sets .entries) × (sets ≡ setsOf (directory (now p))) ⌝ }
-    ensures { λ r. ⌜ r ≡ directoryOf (directory (now (p .entry))) ⌝ }
+// The directory of the DSDs that begin at a place, whose numbers are at hand: a product's, or those that a host holds.
+pub fn directory_from(p: &[u8], from: usize, sets: Sets) -> Directory
+    requires { ⌜ (from + sizeOfDsd * sets .entries ≤ length (now p)) × (sets .entries ≤ 128) ⌝ }
+    ensures { λ r. ⌜ r ≡ directoryWith sets (entriesFrom (now (p .entry)) from (sets .entries)) ⌝ }
 {
     let entries = sets.entries;
-    let dsds = headers_end - Entry::SIZE * entries;
     let types = sets.types;
     let offsets = sets.offsets;
     let sizes = sets.sizes;
@@ -331,9 +303,9 @@ pub fn read_directory(p: &[u8], headers_end: usize, sets: Sets) -> layout::Direc
     let record_sizes = sets.record_sizes;
     let mut names = [0u8; 3584];
     let mut filenames = [0u8; 7936];
-    copy_names(p, dsds, entries, &mut names);
-    copy_filenames(p, dsds, entries, &mut filenames);
-    layout::Directory {
+    copy_texts(p, from, entries, 9, 28, &mut names);
+    copy_texts(p, from, entries, 59, 62, &mut filenames);
+    Directory {
         entries,
         types,
         names,

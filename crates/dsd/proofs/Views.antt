@@ -20,7 +20,7 @@ use Rattle.dsd.proofs.Names.{kind-role, states-role, role-again}
 
 -- ---- numbers held at 2^63
 
-pub capped-test : (m : ℕ) → leb (capped m) largestSigned ≡ leb m largestSigned
+capped-test : (m : ℕ) → leb (capped m) largestSigned ≡ leb m largestSigned
 unfolding capped
 capped-test m = go (lt-or-le largestSigned m)
   where
@@ -45,6 +45,10 @@ over-most e h = go (leb (e .offset .magnitude) largestSigned) (leb (e .size .mag
     go true true h = omega arith
     go true false h = omega arith
     go false u h = omega arith
+
+pub over-held : (e : Entry) → overPlace (viewOf (heldOf e)) ≡ overPlace e
+unfolding overPlace viewOf heldOf numberFrom
+over-held e = rw (capped-test (e .offset .magnitude), capped-test (e .size .magnitude))
 
 -- ---- the entry under another name
 

@@ -4,6 +4,7 @@ use mathlib.Core.Path.{sym, _∙_}
 use native.Mathlib.Omega.{arith}
 use borrow.Author.Tests.{eq-eqb, ne-eqb}
 use Rattle.layout.specs.Answers.{verdictIs}
+use Rattle.directory.specs.Checks.{placeRules}
 use borrow.Author.Needs.{needs}
 use Rattle.directory.proofs.check_places.Statement.{statement}
 use Rattle.directory.proofs.check_places.Tie as tie
@@ -21,7 +22,8 @@ refuse-requires : tie.Need-refuse-requires
 refuse-requires c κs = search needs
 
 returns : tie.Need-returns
-returns c = λ ds held e. c .refuse .ensures ∙ sym (rw (c .before .before .before .first-outside .ensures .answer ds held e, ne-eqb (c .before .before .before .first-outside .result) (c .before .before .before .before .args .entries) (c .before .before .if1 .taken)))
+unfolding placeRules
+returns c = record { answer = λ ds held e. c .refuse .ensures ∙ sym (rw (e, c .before .before .before .first-outside .ensures .answer ds held e, ne-eqb (c .before .before .before .first-outside .result) (c .before .before .before .before .args .entries) (c .before .before .if1 .taken))) }
 
 first-overlapping-requires : tie.Need-first-overlapping-requires
 first-overlapping-requires c κs = search needs
@@ -36,7 +38,8 @@ refuse-requires-2 : tie.Need-refuse-requires-2
 refuse-requires-2 c κs = search needs
 
 returns-2 : tie.Need-returns-2
-returns-2 c = λ ds held e. c .refuse2 .ensures ∙ sym (rw (c .before .before .before .before .before .first-outside .ensures .answer ds held e, eq-eqb (c .before .before .before .before .before .first-outside .result) (c .before .before .before .before .before .before .args .entries) (c .before .before .before .before .if1 .left), c .before .before .before .first-overlapping .ensures .answer ds held e, ne-eqb (c .before .before .before .first-overlapping .result) (c .before .before .before .before .before .before .args .entries) (c .before .before .if2 .taken)))
+unfolding placeRules
+returns-2 c = record { answer = λ ds held e. c .refuse2 .ensures ∙ sym (rw (e, c .before .before .before .before .before .first-outside .ensures .answer ds held e, eq-eqb (c .before .before .before .before .before .first-outside .result) (c .before .before .before .before .before .before .args .entries) (c .before .before .before .before .if1 .left), c .before .before .before .first-overlapping .ensures .answer ds held e, ne-eqb (c .before .before .before .first-overlapping .result) (c .before .before .before .before .before .before .args .entries) (c .before .before .if2 .taken))) }
 
 first-uncovered-requires : tie.Need-first-uncovered-requires
 first-uncovered-requires c κs = search needs
@@ -45,11 +48,12 @@ refuse-requires-3 : tie.Need-refuse-requires-3
 refuse-requires-3 c κs = search needs
 
 returns-3 : tie.Need-returns-3
-returns-3 c = λ ds held e. c .refuse3 .ensures ∙ sym (rw (c .before .before .before .before .before .before .first-outside .ensures .answer ds held e, eq-eqb (c .before .before .before .before .before .before .first-outside .result) (c .before .before .before .before .before .before .before .args .entries) (c .before .before .before .before .before .if1 .left), c .before .before .before .before .first-overlapping .ensures .answer ds held e, eq-eqb (c .before .before .before .before .first-overlapping .result) (c .before .before .before .before .before .before .before .args .entries) (c .before .before .before .if2 .left), c .before .before .first-uncovered .ensures .answer ds held e, ne-eqb (c .before .before .first-uncovered .result) (c .before .before .before .before .before .before .before .args .length) (c .before .if3 .taken)))
+unfolding placeRules
+returns-3 c = record { answer = λ ds held e. c .refuse3 .ensures ∙ sym (rw (e, c .before .before .before .before .before .before .first-outside .ensures .answer ds held e, eq-eqb (c .before .before .before .before .before .before .first-outside .result) (c .before .before .before .before .before .before .before .args .entries) (c .before .before .before .before .before .if1 .left), c .before .before .before .before .first-overlapping .ensures .answer ds held e, eq-eqb (c .before .before .before .before .first-overlapping .result) (c .before .before .before .before .before .before .before .args .entries) (c .before .before .before .if2 .left), c .before .before .first-uncovered .ensures .answer ds held e, ne-eqb (c .before .before .first-uncovered .result) (c .before .before .before .before .before .before .before .args .length) (c .before .if3 .taken))) }
 
 returns-4 : tie.Need-returns-4
-unfolding verdictIs
-returns-4 c = λ ds held e. sym (rw (c .before .before .before .before .before .first-outside .ensures .answer ds held e, eq-eqb (c .before .before .before .before .before .first-outside .result) (c .before .before .before .before .before .before .args .entries) (c .before .before .before .before .if1 .left), c .before .before .before .first-overlapping .ensures .answer ds held e, eq-eqb (c .before .before .before .first-overlapping .result) (c .before .before .before .before .before .before .args .entries) (c .before .before .if2 .left), c .before .first-uncovered .ensures .answer ds held e, eq-eqb (c .before .first-uncovered .result) (c .before .before .before .before .before .before .args .length) (c .if3 .left)))
+unfolding verdictIs placeRules
+returns-4 c = record { answer = λ ds held e. sym (rw (e, c .before .before .before .before .before .first-outside .ensures .answer ds held e, eq-eqb (c .before .before .before .before .before .first-outside .result) (c .before .before .before .before .before .before .args .entries) (c .before .before .before .before .if1 .left), c .before .before .before .first-overlapping .ensures .answer ds held e, eq-eqb (c .before .before .before .first-overlapping .result) (c .before .before .before .before .before .before .args .entries) (c .before .before .if2 .left), c .before .first-uncovered .ensures .answer ds held e, eq-eqb (c .before .first-uncovered .result) (c .before .before .before .before .before .before .args .length) (c .if3 .left))) }
 
 pub check-places-spec : {M : Type 1} → statement M
 check-places-spec =

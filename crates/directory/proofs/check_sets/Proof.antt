@@ -1,77 +1,77 @@
--- `directory::check_sets` meets its contract: the first check that refuses decides, and where all accept the numbers read are the directory's.
+-- `directory::check_sets` meets its contract: the first check that refuses decides.
 -- Assumes nothing.
-use Prim.Native.Nat.{_*_, _-_}
-use mathlib.Core.Path.{_≡_, sym, ap, _∙_, refl}
+use mathlib.Core.Path.{refl, _∙_}
 use native.Mathlib.Omega.{arith}
-use Rattle.layout.specs.Answer.{accepted, _orElse_}
-use Rattle.layout.specs.Answers.{verdictIs}
-use Rattle.layout.specs.Rules.{rule9, rule10, rule11, rule12, rule13, rule14}
-use Rattle.directory.proofs.Rules.{dsds-of, stopped, stop-over, stop-numbers, passed, by-over, by-numbers, by-sets, by-held}
 use borrow.Author.Needs.{needs}
+use Rattle.directory.proofs.Rules.{dsds-of, accepts, numbers-refused, places-refused, all-passed, of-directory, numbers-read, places-are}
 use Rattle.directory.proofs.check_sets.Statement.{statement}
 use Rattle.directory.proofs.check_sets.Tie as tie
 
--- ---- what each check says of its rules, and that they accept behind it
-
-over-is : (c : tie.After-read-sets) → verdictIs (c .read-sets .result .over) ≡ rule9 (c .before .before .before .before .before .before .before .before .args .p .now) (c .before .before .before .before .before .before .before .before .args .length)
-over-is c = by-over (c .before .before .before .before .before .before .before .before .args .p .now) (c .before .before .before .before .before .before .before .before .args .length) (c .before .before .before .before .before .before .before .before .args .headers-end - 280 * c .before .before .before .before .before .before .before .before .args .entries) (c .before .before .before .before .before .before .before .before .args .entries) (dsds-of (c .before .before .before .before .before .before .before .before .pre .0)) (c .read-sets .result) _ (c .read-sets .ensures)
-
-over-passes : (c : tie.After-enum-told) → rule9 (c .before .before .before .before .before .before .before .before .before .before .args .p .now) (c .before .before .before .before .before .before .before .before .before .before .args .length) ≡ accepted
-unfolding verdictIs
-over-passes c = sym (over-is (c .before .before)) ∙ ap verdictIs (c .enum-told .given .1)
-
-numbers-is : (c : tie.After-check-numbers) → verdictIs (c .check-numbers .result) ≡ (rule10 (c .before .before .before .before .before .before .before .before .before .before .before .args .p .now) (c .before .before .before .before .before .before .before .before .before .before .before .args .length) orElse rule11 (c .before .before .before .before .before .before .before .before .before .before .before .args .p .now) (c .before .before .before .before .before .before .before .before .before .before .before .args .length))
-numbers-is c = c .check-numbers .ensures ∙ by-numbers (c .before .before .before .before .before .before .before .before .before .before .before .args .p .now) (c .before .before .before .before .before .before .before .before .before .before .before .args .length) (c .before .before .before .before .before .before .before .before .before .before .before .args .headers-end - 280 * c .before .before .before .before .before .before .before .before .before .before .before .args .entries) (c .before .before .before .before .before .before .before .before .before .before .before .args .entries) (dsds-of (c .before .before .before .before .before .before .before .before .before .before .before .pre .0)) (c .before .before .before .read-sets .result) _ (c .before .before .before .read-sets .ensures) (over-passes (c .before))
-
-numbers-passes : (c : tie.After-enum-told2) → (rule10 (c .before .before .before .before .before .before .before .before .before .before .before .before .before .args .p .now) (c .before .before .before .before .before .before .before .before .before .before .before .before .before .args .length) orElse rule11 (c .before .before .before .before .before .before .before .before .before .before .before .before .before .args .p .now) (c .before .before .before .before .before .before .before .before .before .before .before .before .before .args .length)) ≡ accepted
-unfolding verdictIs
-numbers-passes c = sym (numbers-is (c .before .before)) ∙ ap verdictIs (c .enum-told2 .given .1)
-
-places-is : (c : tie.After-check-places) → verdictIs (c .check-places .result) ≡ (rule12 (c .before .before .before .before .before .before .before .before .before .before .before .before .before .before .before .before .args .p .now) (c .before .before .before .before .before .before .before .before .before .before .before .before .before .before .before .before .args .length) orElse (rule13 (c .before .before .before .before .before .before .before .before .before .before .before .before .before .before .before .before .args .p .now) (c .before .before .before .before .before .before .before .before .before .before .before .before .before .before .before .before .args .length) orElse rule14 (c .before .before .before .before .before .before .before .before .before .before .before .before .before .before .before .before .args .p .now) (c .before .before .before .before .before .before .before .before .before .before .before .before .before .before .before .before .args .length)))
-places-is c =
-    by-held (c .before .before .before .before .before .before .before .before .before .before .before .before .before .before .before .before .args .p .now) (c .before .before .before .before .before .before .before .before .before .before .before .before .before .before .before .before .args .length) (c .before .before .before .before .before .before .before .before .before .before .before .before .before .before .before .before .args .headers-end) (c .before .before .before .before .before .before .before .before .before .before .before .before .before .before .before .before .args .entries) (c .before .before .before .before .before .before .before .before .before .before .before .before .before .before .before .before .pre .0) (c .before .before .before .before .before .before .before .before .read-sets .result) _ (c .before .before .before .before .before .before .before .before .read-sets .ensures) (c .before .before .before .before .before .before .before .before .before .before .before .before .before .before .before .before .pre .1) (over-passes (c .before .before .before .before .before .before)) (numbers-passes (c .before .before .before))
-    (c .check-places .ensures)
-
 mul-dsds : tie.Need-mul-dsds
-mul-dsds c = omega arith
+mul-dsds c = search needs
 
 sub-dsds : tie.Need-sub-dsds
-sub-dsds c = omega arith
+sub-dsds c = search needs
 
 read-sets-requires : tie.Need-read-sets-requires
-read-sets-requires c κs = (dsds-of (c .before .before .before .before .before .before .before .pre .0), c .before .before .before .before .before .before .before .pre .2)
-
-enum-known-over : tie.Need-enum-known-over
-enum-known-over c = search needs
-
-returns : tie.Need-returns
-unfolding verdictIs
-returns c = stopped (c .before .before .before .before .before .before .before .before .before .before .before .args .p .now) (c .before .before .before .before .before .before .before .before .before .before .before .args .length) _ _ (stop-over (c .before .before .before .before .before .before .before .before .before .before .before .args .p .now) (c .before .before .before .before .before .before .before .before .before .before .before .args .length) (c .before .before .before .before .before .before .before .before .before .before .before .pre .1) (sym (ap verdictIs (c .before .over .given .1)) ∙ over-is (c .before .before .before))) refl
-
-enum-told : tie.Need-enum-told
-enum-told c = search needs
+read-sets-requires c κs = let pre = c .before .before .before .before .before .before .before .pre in (omega (arith, dsds-of (pre .0) .inside), pre .0 .most, refl)
 
 check-numbers-requires : tie.Need-check-numbers-requires
-check-numbers-requires c κs = (dsds-of (c .before .before .before .before .before .before .before .before .before .before .pre .0), c .before .before .read-sets .ensures .within)
+check-numbers-requires c κs = let args = c .before .before .before .before .before .before .before .before .args in let pre = c .before .before .before .before .before .before .before .before .pre in (dsds-of (pre .0), of-directory (args .p .now) (args .length) (args .headers-end) (args .entries) (pre .0) (c .read-sets .result) (c .read-sets .ensures .0))
 
 enum-known-numbers : tie.Need-enum-known-numbers
 enum-known-numbers c = search needs
 
-returns-2 : tie.Need-returns-2
-unfolding verdictIs
-returns-2 c =
-    stopped (c .before .before .before .before .before .before .before .before .before .before .before .before .before .before .args .p .now) (c .before .before .before .before .before .before .before .before .before .before .before .before .before .before .args .length) _ _ (stop-numbers (c .before .before .before .before .before .before .before .before .before .before .before .before .before .before .args .p .now) (c .before .before .before .before .before .before .before .before .before .before .before .before .before .before .args .length) (c .before .before .before .before .before .before .before .before .before .before .before .before .before .before .pre .1) (over-passes (c .before .before .before .before)) (sym (ap verdictIs (c .before .numbers .given .1)) ∙ numbers-is (c .before .before .before))) refl
+refused-check-requires : tie.Need-refused-check-requires
+refused-check-requires c κs = search needs
 
-enum-told-2 : tie.Need-enum-told-2
-enum-told-2 c = search needs
+returns : tie.Need-returns
+returns c =
+    let args = c .before .before .before .before .before .before .before .before .before .before .before .before .before .args in
+    let pre = c .before .before .before .before .before .before .before .before .before .before .before .before .before .pre in
+    let b = args .p .now in
+    let length = args .length in
+    numbers-refused b length (pre .1) _ _ (c .refused-check .ensures) (c .before .before .before .before .check-numbers .result) (c .before .before .numbers .given .1) (c .before .before .before .before .check-numbers .ensures length)
+
+enum-told : tie.Need-enum-told
+enum-told c = search needs
 
 check-places-requires : tie.Need-check-places-requires
 check-places-requires c κs = search needs
 
+enum-known-places : tie.Need-enum-known-places
+enum-known-places c = search needs
+
+refused-check-requires-2 : tie.Need-refused-check-requires-2
+refused-check-requires-2 c κs = search needs
+
+returns-2 : tie.Need-returns-2
+returns-2 c =
+    let args = c .before .before .before .before .before .before .before .before .before .before .before .before .before .before .before .before .before .before .args in
+    let pre = c .before .before .before .before .before .before .before .before .before .before .before .before .before .before .before .before .before .before .pre in
+    let b = args .p .now in
+    let length = args .length in
+    let numbers = accepts (c .before .before .before .before .before .before .before .before .before .check-numbers .result) _ (c .before .before .before .before .before .before .before .enum-told .given .1) (c .before .before .before .before .before .before .before .before .before .check-numbers .ensures length) in
+    let read = c .before .before .before .before .before .before .before .before .before .before .read-sets .ensures in
+    let places = places-are b length (args .headers-end) (args .entries) (pre .0) (c .before .before .before .before .before .before .before .before .before .before .read-sets .result) (read .0) (pre .1) numbers _ (read .1) (c .before .before .before .before .check-places .result) (c .before .before .before .before .check-places .ensures) in
+    places-refused b length (pre .1) numbers _ _ (c .refused-check2 .ensures) (c .before .before .before .before .check-places .result) (c .before .before .places .given .1) places
+
+enum-told-2 : tie.Need-enum-told-2
+enum-told-2 c = search needs
+
+of-requires : tie.Need-of-requires
+of-requires c κs = search needs
+
 returns-3 : tie.Need-returns-3
 returns-3 c =
-    passed (c .before .before .before .before .before .before .before .before .before .before .before .before .before .before .before .before .args .p .now) (c .before .before .before .before .before .before .before .before .before .before .before .before .before .before .before .before .args .length) _ _ (c .before .before .before .before .before .before .before .before .before .before .before .before .before .before .before .before .pre .1) (over-passes (c .before .before .before .before .before .before)) (numbers-passes (c .before .before .before)) (places-is c)
-    (by-sets (c .before .before .before .before .before .before .before .before .before .before .before .before .before .before .before .before .args .p .now) (c .before .before .before .before .before .before .before .before .before .before .before .before .before .before .before .before .args .length) (c .before .before .before .before .before .before .before .before .before .before .before .before .before .before .before .before .args .headers-end - 280 * c .before .before .before .before .before .before .before .before .before .before .before .before .before .before .before .before .args .entries) (c .before .before .before .before .before .before .before .before .before .before .before .before .before .before .before .before .args .entries) (dsds-of (c .before .before .before .before .before .before .before .before .before .before .before .before .before .before .before .before .pre .0)) (c .before .before .before .before .before .before .before .before .read-sets .result) _ (c .before .before .before .before .before .before .before .before .read-sets .ensures) (over-passes (c .before .before .before .before .before .before)))
+    let args = c .before .before .before .before .before .before .before .before .before .before .before .before .before .before .before .before .before .args in
+    let pre = c .before .before .before .before .before .before .before .before .before .before .before .before .before .before .before .before .before .pre in
+    let b = args .p .now in
+    let length = args .length in
+    let numbers = accepts (c .before .before .before .before .before .before .before .before .check-numbers .result) _ (c .before .before .before .before .before .before .enum-told .given .1) (c .before .before .before .before .before .before .before .before .check-numbers .ensures length) in
+    let read = c .before .before .before .before .before .before .before .before .before .read-sets .ensures in
+    let places = places-are b length (args .headers-end) (args .entries) (pre .0) (c .before .before .before .before .before .before .before .before .before .read-sets .result) (read .0) (pre .1) numbers _ (read .1) (c .before .before .before .check-places .result) (c .before .before .before .check-places .ensures) in
+    all-passed b length (pre .1) numbers _ (numbers-read b length (args .headers-end) (args .entries) (pre .0) (c .before .before .before .before .before .before .before .before .before .read-sets .result) (read .0) (pre .1) numbers _ (c .of .ensures ∙ read .1)) (accepts (c .before .before .before .check-places .result) _ (c .before .enum-told2 .given .1) places)
 
 pub check-sets-spec : {M : Type 1} → statement M
 check-sets-spec =
@@ -80,12 +80,15 @@ check-sets-spec =
     mul-dsds
     sub-dsds
     read-sets-requires
-    enum-known-over
-    returns
-    enum-told
     check-numbers-requires
     enum-known-numbers
+    refused-check-requires
+    returns
+    enum-told
+    check-places-requires
+    enum-known-places
+    refused-check-requires-2
     returns-2
     enum-told-2
-    check-places-requires
+    of-requires
     returns-3)

@@ -4,6 +4,7 @@ use mathlib.Core.Path.{sym, _∙_}
 use native.Mathlib.Omega.{arith}
 use borrow.Author.Tests.{eq-eqb, ne-eqb}
 use Rattle.directory.proofs.Rules.{seven, eight-all}
+use Rattle.directory.specs.Checks.{textRules}
 use borrow.Author.Needs.{needs}
 use Rattle.directory.proofs.check_text.Statement.{statement}
 use Rattle.directory.proofs.check_text.Tie as tie
@@ -15,12 +16,14 @@ refuse-requires : tie.Need-refuse-requires
 refuse-requires c κs = search needs
 
 returns : tie.Need-returns
+unfolding textRules
 returns c = λ n. c .refuse .ensures ∙ sym (rw (seven (c .before .before .before .before .args .p .now) (c .before .before .before .before .args .dsds) (c .before .before .before .before .args .entries) (c .before .before .before .before .pre) (c .before .before .first-bad-line .result) (c .before .before .first-bad-line .ensures) n, ne-eqb (c .before .before .first-bad-line .result) (c .before .before .before .before .args .dsds) (c .before .if1 .taken)))
 
 check-dsds-requires : tie.Need-check-dsds-requires
 check-dsds-requires c κs = search needs
 
 returns-2 : tie.Need-returns-2
+unfolding textRules
 returns-2 c = λ n. c .check-dsds .ensures ∙ sym (rw (seven (c .before .before .before .before .args .p .now) (c .before .before .before .before .args .dsds) (c .before .before .before .before .args .entries) (c .before .before .before .before .pre) (c .before .before .first-bad-line .result) (c .before .before .first-bad-line .ensures) n, eq-eqb (c .before .before .first-bad-line .result) (c .before .before .before .before .args .dsds) (c .before .if1 .left), eight-all (c .before .before .before .before .args .p .now) (c .before .before .before .before .args .dsds) (c .before .before .before .before .args .entries) (c .before .before .before .before .pre) n))
 
 pub check-text-spec : {M : Type 1} → statement M

@@ -1,95 +1,77 @@
--- `directory::read_sets` meets its contract: the arrays lent hold the entries read so far, what is left of rule 9 from `i` on is the whole, and rule 10
--- and the count are those of the entries read so far.
+-- `directory::read_sets` meets its contract: the arrays lent hold the entries read so far, and the counts are those of the entries read so far.
 -- Assumes nothing.
-use borrow.Author.Needs.{needs}
-use Prim.Native.Nat.{_+_, _*_, _-_, _≤_}
+use Prim.Native.Nat.{_+_, _≤_, _<_, _-_}
 use mathlib.Core.List.{map}
 use mathlib.Core.Path.{_≡_, sym, ap, _∙_}
 use native.Mathlib.Omega.{arith}
 use mir.Syntax.{w64}
 use mir.Facts.{toZ-ofZ}
-use lib.Dec.{eqb}
 use lib.IntN.{pos}
-use Rattle.layout.specs.Answer.{need}
+use lib.ListN.{length}
+use borrow.Author.Needs.{needs}
+use Rattle.layout.specs.Search.{find, count, upto}
+use Rattle.layout.specs.Entries.{entriesFrom}
+use Rattle.layout.specs.Rules.{isDataAt, dataSets}
+use Rattle.layout.specs.Text.{whole}
 use Rattle.layout.specs.Answers.{padded, typeOf, countOf, recordSizeOf}
-use Rattle.layout.specs.Search.{first, count}
-use Rattle.layout.specs.Entries.{directory, entryAt, start, extent, numbersFit, isData}
-use Rattle.layout.specs.Rules.{rule9At, rule10At, isDataAt}
-use Rattle.layout.proofs.Laws.{accepted≢refused}
-use Rattle.dsd.specs.Held.{viewOf, roleOf}
-use Rattle.directory.specs.Checks.{entriesTo}
+use Rattle.layout.proofs.Sound.{length-entries}
+use Rattle.text.specs.Numbers.{wholeIn}
+use Rattle.dsd.specs.Held.{heldOf, viewOf, roleOf}
+use Rattle.dsd.specs.declared.Entry.{Entry as HeldEntry}
+use Rattle.directory.specs.Numbers.{heldStart, heldExtent, heldRole}
+use Rattle.directory.specs.Checks.{overAt, unfitAt}
 use Rattle.directory.specs.declared.Sets.{Sets}
-use Rattle.dsd.proofs.Views.{Turn, over-most}
-use Rattle.directory.proofs.Turns.{turn, nine-refused, nine-accepted, ten}
-use Rattle.directory.proofs.Loops.{left-all, left-refused, left-next, left-end, none-first, none-counted, none-held, one-more, ten-next, eleven-next, sets-read}
+use Rattle.directory.proofs.Arrays.{none-held, one-held}
+use Rattle.directory.proofs.Loops.{none-found, row-next, none-counted, count-next}
+use Rattle.directory.proofs.Held.{held-is, over-is, fits-is, counted-is, of-entry, all-held, all-read}
 use Rattle.directory.proofs.read_sets.Statement.{statement}
 use Rattle.directory.proofs.read_sets.Tie as tie
 
 abbrev Inv-loop : tie.InvT-loop
-Inv-loop p dsds entries types₀ offsets₀ sizes₀ counts₀ record-sizes₀ roles₀ fitting₀ counted₀ i₀ types offsets sizes counts record-sizes roles fitting counted i =
-    (i ≤ entries)
-    × (first (rule9At p) 0 entries ≡ first (rule9At p) i (entries - i))
-    × (fitting ≤ i)
-    × (first (rule10At p) 0 i ≡ need (eqb fitting i) 10 (dsds + 280 * fitting) fitting)
+Inv-loop p from n types₀ offsets₀ sizes₀ counts₀ record-sizes₀ roles₀ within₀ fitting₀ counted₀ i₀ types offsets sizes counts record-sizes roles within fitting counted i =
+    (i ≤ n)
+    × (within ≡ find (overAt (entriesFrom p from n)) 0 i)
+    × (fitting ≡ find (unfitAt (entriesFrom p from n)) 0 i)
     × (counted ≤ i)
-    × (counted ≡ count (isDataAt (directory p)) 0 i)
-    × (types ≡ padded 128 0 (map typeOf (entriesTo p i)))
-    × (offsets ≡ padded 128 0 (map start (entriesTo p i)))
-    × (sizes ≡ padded 128 0 (map extent (entriesTo p i)))
-    × (counts ≡ padded 128 0 (map countOf (entriesTo p i)))
-    × (record-sizes ≡ padded 128 (pos 0) (map recordSizeOf (entriesTo p i)))
-    × (roles ≡ padded 128 0 (map roleOf (entriesTo p i)))
+    × (counted ≡ count (isDataAt (entriesFrom p from n)) 0 i)
+    × (types ≡ padded 128 0 (map (of-entry typeOf 0 p from n) (upto 0 i)))
+    × (offsets ≡ padded 128 0 (map (of-entry heldStart 0 p from n) (upto 0 i)))
+    × (sizes ≡ padded 128 0 (map (of-entry heldExtent 0 p from n) (upto 0 i)))
+    × (counts ≡ padded 128 0 (map (of-entry countOf 0 p from n) (upto 0 i)))
+    × (record-sizes ≡ padded 128 (pos 0) (map (of-entry recordSizeOf (pos 0) p from n) (upto 0 i)))
+    × (roles ≡ padded 128 0 (map (of-entry heldRole 0 p from n) (upto 0 i)))
 
 abbrev μ-loop : tie.MeasureT-loop
-μ-loop p dsds entries types₀ offsets₀ sizes₀ counts₀ record-sizes₀ roles₀ fitting₀ counted₀ i₀ types offsets sizes counts record-sizes roles fitting counted i =
-    entries - i
+μ-loop p from n types₀ offsets₀ sizes₀ counts₀ record-sizes₀ roles₀ within₀ fitting₀ counted₀ i₀ types offsets sizes counts record-sizes roles within fitting counted i =
+    n - i
 
 loop-holds : tie.Need-loop-holds Inv-loop μ-loop
-loop-holds c = (
-  omega arith,
-  left-all (rule9At (c .before .args .p .now)) (c .before .args .entries),
-  omega arith,
-  none-first (rule10At (c .before .args .p .now)) (c .before .args .dsds),
-  omega arith,
-  none-counted (isDataAt (directory (c .before .args .p .now))),
-  ap (λ (s : Sets). s .types) (c .before .pre .1) ∙ none-held typeOf 0 (c .before .args .p .now),
-  ap (λ (s : Sets). s .offsets) (c .before .pre .1) ∙ none-held start 0 (c .before .args .p .now),
-  ap (λ (s : Sets). s .sizes) (c .before .pre .1) ∙ none-held extent 0 (c .before .args .p .now),
-  ap (λ (s : Sets). s .counts) (c .before .pre .1) ∙ none-held countOf 0 (c .before .args .p .now),
-  ap (λ (s : Sets). s .«record_sizes») (c .before .pre .1) ∙ none-held recordSizeOf (pos 0) (c .before .args .p .now),
-  ap (λ (s : Sets). s .roles) (c .before .pre .1) ∙ none-held roleOf 0 (c .before .args .p .now),
-)
+loop-holds c =
+    let b = c .before .args .p .now in
+    let from = c .before .args .from in
+    let n = c .before .args .n in
+    let zeros = c .before .pre .2 in (
+      omega arith,
+      none-found (overAt (entriesFrom b from n)),
+      none-found (unfitAt (entriesFrom b from n)),
+      omega arith,
+      none-counted (isDataAt (entriesFrom b from n)),
+      ap (λ (s : Sets). s .types) zeros ∙ none-held (of-entry typeOf 0 b from n) 0,
+      ap (λ (s : Sets). s .offsets) zeros ∙ none-held (of-entry heldStart 0 b from n) 0,
+      ap (λ (s : Sets). s .sizes) zeros ∙ none-held (of-entry heldExtent 0 b from n) 0,
+      ap (λ (s : Sets). s .counts) zeros ∙ none-held (of-entry countOf 0 b from n) 0,
+      ap (λ (s : Sets). s .«record_sizes») zeros ∙ none-held (of-entry recordSizeOf (pos 0) b from n) (pos 0),
+      ap (λ (s : Sets). s .roles) zeros ∙ none-held (of-entry heldRole 0 b from n) 0,
+    )
 
-mul-start : tie.Need-mul-start Inv-loop μ-loop
-mul-start c = omega arith
+mul-at : tie.Need-mul-at Inv-loop μ-loop
+mul-at c = omega arith
 
-add-start : tie.Need-add-start Inv-loop μ-loop
-add-start c = omega arith
+add-at : tie.Need-add-at Inv-loop μ-loop
+add-at c = omega arith
 
 at-requires : tie.Need-at-requires Inv-loop μ-loop
 at-requires c κs = omega arith
-
-over-requires : tie.Need-over-requires Inv-loop μ-loop
-over-requires c κs = search needs
-
-add-over-reading : tie.Need-add-over-reading Inv-loop μ-loop
-add-over-reading c = omega (arith, over-most (viewOf (c .before .before .at .result)) (c .before .over .ensures))
-
-over-reading-requires : tie.Need-over-reading-requires Inv-loop μ-loop
-over-reading-requires c κs = search needs
-
-returns : tie.Need-returns Inv-loop μ-loop
-returns c =
-    let refused-nine =
-    left-refused (rule9At (c .before .before .before .before .before .before .before .args .p .now)) (c .before .before .before .before .before .before .before .args .entries) (c .before .before .before .before .before .loop .i) (c .before .before .before .before .before .loop .inv .1) (omega arith)
-    (nine-refused (c .before .before .before .before .before .before .before .args .p .now) (c .before .before .before .before .before .before .before .args .dsds) (c .before .before .before .before .before .before .before .args .entries) (c .before .before .before .before .before .loop .i) (c .before .before .before .before .before .before .before .pre .0) (c .before .before .before .at .result) (c .before .before .before .at .ensures) (c .before .before .over .result) (c .before .before .over .ensures) (c .before .if1 .taken)) in
-    record {
-      nine = c .over-reading .ensures .0 ∙ sym refused-nine;
-      within = omega (arith, c .over-reading .ensures .1);
-      ten = λ a. absurd (accepted≢refused (sym a ∙ refused-nine));
-      eleven = λ a. absurd (accepted≢refused (sym a ∙ refused-nine));
-      read = λ a. absurd (accepted≢refused (sym a ∙ refused-nine));
-    }
 
 element-write-types : tie.Need-element-write-types Inv-loop μ-loop
 element-write-types c = omega arith
@@ -113,7 +95,7 @@ element-write-counts : tie.Need-element-write-counts Inv-loop μ-loop
 element-write-counts c = omega arith
 
 whole-requires : tie.Need-whole-requires Inv-loop μ-loop
-whole-requires c κs = c .before .before .at .ensures .small
+whole-requires c κs = c .at .ensures .small
 
 mul-t17 : tie.Need-mul-t17 Inv-loop μ-loop
 mul-t17 c = omega arith
@@ -127,8 +109,17 @@ role-requires c κs = search needs
 element-write-roles : tie.Need-element-write-roles Inv-loop μ-loop
 element-write-roles c = omega arith
 
-fitting-with-requires : tie.Need-fitting-with-requires Inv-loop μ-loop
-fitting-with-requires c κs = omega arith
+over-requires : tie.Need-over-requires Inv-loop μ-loop
+over-requires c κs = search needs
+
+row-with-requires : tie.Need-row-with-requires Inv-loop μ-loop
+row-with-requires c κs = omega arith
+
+numbers-fit-requires : tie.Need-numbers-fit-requires Inv-loop μ-loop
+numbers-fit-requires c κs = search needs
+
+row-with-requires-2 : tie.Need-row-with-requires-2 Inv-loop μ-loop
+row-with-requires-2 c κs = omega arith
 
 counted-with-requires : tie.Need-counted-with-requires Inv-loop μ-loop
 counted-with-requires c κs = omega arith
@@ -139,54 +130,47 @@ add-i c = omega arith
 loop-less : tie.Need-loop-less Inv-loop μ-loop
 loop-less c = omega arith
 
--- what a turn has of its entry; and the entries in a row that fit, and those counted, after it
-turn-here : (c : tie.After-counted-with Inv-loop μ-loop) → Turn (entryAt (c .before .before .before .before .before .before .before .before .before .before .args .p .now) (c .before .before .before .before .before .before .before .before .loop .i)) (c .before .before .before .before .before .before .at .result)
-turn-here c = turn (c .before .before .before .before .before .before .before .before .before .before .args .p .now) (c .before .before .before .before .before .before .before .before .before .before .args .dsds) (c .before .before .before .before .before .before .before .before .before .before .args .entries) (c .before .before .before .before .before .before .before .before .loop .i) (c .before .before .before .before .before .before .before .before .before .before .pre .0) (c .before .before .before .before .before .before .at .result) (c .before .before .before .before .before .before .at .ensures) (c .before .before .before .before .before .over .result) (c .before .before .before .before .before .over .ensures) (c .before .before .before .before .if1 .left)
-
-fits-next : (c : tie.After-counted-with Inv-loop μ-loop) → (c .before .fitting-with .result ≤ c .before .before .before .before .before .before .before .before .loop .i + 1) × (first (rule10At (c .before .before .before .before .before .before .before .before .before .before .args .p .now)) 0 (c .before .before .before .before .before .before .before .before .loop .i + 1) ≡ need (eqb (c .before .fitting-with .result) (c .before .before .before .before .before .before .before .before .loop .i + 1)) 10 (c .before .before .before .before .before .before .before .before .before .before .args .dsds + 280 * c .before .fitting-with .result) (c .before .fitting-with .result))
-fits-next c =
-    ten-next (rule10At (c .before .before .before .before .before .before .before .before .before .before .args .p .now)) (c .before .before .before .before .before .before .before .before .before .before .args .dsds) (c .before .before .before .before .before .before .before .before .loop .fitting) (c .before .before .before .before .before .before .before .before .loop .i) (numbersFit (viewOf (c .before .before .before .before .before .before .at .result))) (c .before .before .before .before .before .before .before .before .loop .inv .2) (c .before .before .before .before .before .before .before .before .loop .inv .3)
-    (ten (c .before .before .before .before .before .before .before .before .before .before .args .p .now) (c .before .before .before .before .before .before .before .before .before .before .args .dsds) (c .before .before .before .before .before .before .before .before .before .before .args .entries) (c .before .before .before .before .before .before .before .before .loop .i) (c .before .before .before .before .before .before .before .before .before .before .pre .0) ∙ rw (← turn-here c .fits))
-    (c .before .fitting-with .ensures)
-
-counts-next : (c : tie.After-counted-with Inv-loop μ-loop) → (c .counted-with .result ≡ count (isDataAt (directory (c .before .before .before .before .before .before .before .before .before .before .args .p .now))) 0 (c .before .before .before .before .before .before .before .before .loop .i + 1)) × (c .counted-with .result ≤ c .before .before .before .before .before .before .before .before .loop .i + 1)
-counts-next c =
-    eleven-next (c .before .before .before .before .before .before .before .before .before .before .args .p .now) (c .before .before .before .before .before .before .before .before .loop .counted) (c .before .before .before .before .before .before .before .before .loop .i) (isData (viewOf (c .before .before .before .before .before .before .at .result))) (omega (arith, c .before .before .before .before .before .before .before .before .before .before .pre .0 .all)) (c .before .before .before .before .before .before .before .before .loop .inv .5) (c .before .before .before .before .before .before .before .before .loop .inv .4) (turn-here c .counted)
-    (c .counted-with .ensures)
-
 loop-again : tie.Need-loop-again Inv-loop μ-loop
+unfolding heldOf wholeIn whole
 loop-again c =
-    let t = turn-here c in
-    let f = fits-next c in
-    let k = counts-next c in (
+    let l = c .before .before .before .before .before .before .before .before .before .loop in
+    let args = c .before .before .before .before .before .before .before .before .before .before .before .args in
+    let b = args .p .now in
+    let from = args .from in
+    let n = args .n in
+    let read = c .before .before .before .before .before .before .before .at in
+    let entry = read .result in
+    let more : l .i < n = omega arith in
+    let few : l .i < 128 = omega (arith, c .before .before .before .before .before .before .before .before .before .before .before .pre .1) in
+    let is = held-is b from n (l .i) more entry (read .ensures) in
+    let counted = count-next (isDataAt (entriesFrom b from n)) (l .counted) (l .i) (l .inv .4) (l .inv .3) (c .counted-with .ensures ∙ rw (counted-is b from n (l .i) more entry (read .ensures))) in (
       omega arith,
-      left-next (rule9At (c .before .before .before .before .before .before .before .before .before .before .args .p .now)) (c .before .before .before .before .before .before .before .before .before .before .args .entries) (c .before .before .before .before .before .before .before .before .loop .i) (c .before .before .before .before .before .before .before .before .loop .inv .1) (omega arith)
-          (nine-accepted (c .before .before .before .before .before .before .before .before .before .before .args .p .now) (c .before .before .before .before .before .before .before .before .before .before .args .dsds) (c .before .before .before .before .before .before .before .before .before .before .args .entries) (c .before .before .before .before .before .before .before .before .loop .i) (c .before .before .before .before .before .before .before .before .before .before .pre .0) (c .before .before .before .before .before .before .at .result) (c .before .before .before .before .before .before .at .ensures) (c .before .before .before .before .before .over .result) (c .before .before .before .before .before .over .ensures) (c .before .before .before .before .if1 .left)),
-      f .0,
-      f .1,
-      k .1,
-      k .0,
-      one-more typeOf 0 (c .before .before .before .before .before .before .before .before .before .before .args .p .now) (c .before .before .before .before .before .before .before .before .loop .types) (c .before .before .before .before .before .before .before .before .loop .i) _ (omega arith) (c .before .before .before .before .before .before .before .before .loop .inv .6) (t .types),
-      one-more start 0 (c .before .before .before .before .before .before .before .before .before .before .args .p .now) (c .before .before .before .before .before .before .before .before .loop .offsets) (c .before .before .before .before .before .before .before .before .loop .i) _ (omega arith) (c .before .before .before .before .before .before .before .before .loop .inv .7) (t .offsets),
-      one-more extent 0 (c .before .before .before .before .before .before .before .before .before .before .args .p .now) (c .before .before .before .before .before .before .before .before .loop .sizes) (c .before .before .before .before .before .before .before .before .loop .i) _ (omega arith) (c .before .before .before .before .before .before .before .before .loop .inv .8) (t .sizes),
-      one-more countOf 0 (c .before .before .before .before .before .before .before .before .before .before .args .p .now) (c .before .before .before .before .before .before .before .before .loop .counts) (c .before .before .before .before .before .before .before .before .loop .i) _ (omega arith) (c .before .before .before .before .before .before .before .before .loop .inv .9) (t .counts),
-      one-more recordSizeOf (pos 0) (c .before .before .before .before .before .before .before .before .before .before .args .p .now) (c .before .before .before .before .before .before .before .before .loop .record-sizes) (c .before .before .before .before .before .before .before .before .loop .i) _ (omega arith) (c .before .before .before .before .before .before .before .before .loop .inv .10) (toZ-ofZ {w = w64} (record { sfits = c .before .before .before .whole .ok }) ∙ c .before .before .before .whole .ensures ∙ t .record-sizes),
-      one-more roleOf 0 (c .before .before .before .before .before .before .before .before .before .before .args .p .now) (c .before .before .before .before .before .before .before .before .loop .roles) (c .before .before .before .before .before .before .before .before .loop .i) _ (omega arith) (c .before .before .before .before .before .before .before .before .loop .inv .11) (c .before .before .role .ensures ∙ t .roles),
+      row-next (overAt (entriesFrom b from n)) (l .within) (l .i) _ (l .inv .1) (over-is b from n (l .i) more entry (read .ensures) (c .before .before .before .before .over .ensures)) (c .before .before .before .row-with .ensures),
+      row-next (unfitAt (entriesFrom b from n)) (l .fitting) (l .i) _ (l .inv .2) (fits-is b from n (l .i) more entry (read .ensures) (c .before .before .numbers-fit .ensures)) (c .before .row-with2 .ensures),
+      counted .1,
+      counted .0,
+      one-held (of-entry typeOf 0 b from n) 0 (l .types) (l .i) _ few (l .inv .5) (ap (λ (h : HeldEntry). h .«ds_type») is),
+      one-held (of-entry heldStart 0 b from n) 0 (l .offsets) (l .i) _ few (l .inv .6) (ap (λ (h : HeldEntry). h .offset .magnitude) is),
+      one-held (of-entry heldExtent 0 b from n) 0 (l .sizes) (l .i) _ few (l .inv .7) (ap (λ (h : HeldEntry). h .size .magnitude) is),
+      one-held (of-entry countOf 0 b from n) 0 (l .counts) (l .i) _ few (l .inv .8) (ap (λ (h : HeldEntry). h .count .magnitude) is),
+      one-held (of-entry recordSizeOf (pos 0) b from n) (pos 0) (l .record-sizes) (l .i) _ few (l .inv .9) (toZ-ofZ {w = w64} (record { sfits = c .before .before .before .before .before .before .whole .ok }) ∙ c .before .before .before .before .before .before .whole .ensures ∙ ap (λ (h : HeldEntry). wholeIn (h .«record_size»)) is),
+      one-held (of-entry heldRole 0 b from n) 0 (l .roles) (l .i) _ few (l .inv .10) (c .before .before .before .before .before .role .ensures ∙ ap (λ (h : HeldEntry). roleOf (viewOf h)) is),
     )
 
-full-reading-requires : tie.Need-full-reading-requires Inv-loop μ-loop
-full-reading-requires c κs = search needs
-
-returns-2 : tie.Need-returns-2 Inv-loop μ-loop
-returns-2 c =
-    let e : c .before .before .loop .i ≡ c .before .before .before .before .args .entries = omega arith in
-    record {
-      nine = c .full-reading .ensures .0 ∙ sym (left-end (rule9At (c .before .before .before .before .args .p .now)) (c .before .before .before .before .args .entries) (c .before .before .loop .i) (c .before .before .loop .inv .1) (omega arith));
-      within = omega (arith, c .full-reading .ensures .1);
-      ten = λ a. rw (c .full-reading .ensures .1, ← e) (c .before .before .loop .inv .3);
-      eleven = λ a. c .full-reading .ensures .2 ∙ rw (← e) (c .before .before .loop .inv .5);
-      read = λ a. sets-read (c .before .before .before .before .args .p .now) (c .before .before .before .before .args .entries) (c .before .before .loop .i) (c .before .before .before .before .pre .0 .all) e (c .before .before .loop .inv .6) (c .before .before .loop .inv .7) (c .before .before .loop .inv .8) (c .before .before .loop .inv .9) (c .before .before .loop .inv .10) (c .before .before .loop .inv .11);
-    }
+returns : tie.Need-returns Inv-loop μ-loop
+unfolding dataSets
+returns c =
+    let l = c .before .loop in
+    let args = c .before .before .before .args in
+    let b = args .p .now in
+    let from = args .from in
+    let n = args .n in
+    let ds = entriesFrom b from n in
+    let e : l .i ≡ n = omega arith in
+    let all : l .i ≡ length ds = e ∙ sym (length-entries b from n) in (
+      record { nine = l .inv .1 ∙ ap (find (overAt ds) 0) all; ten = l .inv .2 ∙ ap (find (unfitAt ds) 0) all; eleven = l .inv .4 ∙ ap (count (isDataAt ds) 0) all },
+      all-read b from n (all-held typeOf 0 b from n (l .i) e (l .inv .5)) (all-held heldStart 0 b from n (l .i) e (l .inv .6)) (all-held heldExtent 0 b from n (l .i) e (l .inv .7)) (all-held countOf 0 b from n (l .i) e (l .inv .8)) (all-held recordSizeOf (pos 0) b from n (l .i) e (l .inv .9)) (all-held heldRole 0 b from n (l .i) e (l .inv .10)),
+    )
 
 pub read-sets-spec : {M : Type 1} → statement M
 read-sets-spec =
@@ -195,13 +179,9 @@ read-sets-spec =
     Inv-loop
     μ-loop
     loop-holds
-    mul-start
-    add-start
+    mul-at
+    add-at
     at-requires
-    over-requires
-    add-over-reading
-    over-reading-requires
-    returns
     element-write-types
     mul-offsets
     element-write-offsets
@@ -214,10 +194,12 @@ read-sets-spec =
     element-set-from-record-sizes
     role-requires
     element-write-roles
-    fitting-with-requires
+    over-requires
+    row-with-requires
+    numbers-fit-requires
+    row-with-requires-2
     counted-with-requires
     add-i
     loop-less
     loop-again
-    full-reading-requires
-    returns-2)
+    returns)
