@@ -21,7 +21,7 @@ use Rattle.layout.specs.declared.Verdict.{Verdict}
 use Rattle.layout.specs.Search.{first, count, laidOut}
 use Rattle.layout.specs.Sph.{sphLines}
 use Rattle.layout.specs.Entries.{Entry, eqZ, headerNumber, numDataSets, entries, dsdAt, dsdBytes, entryOf, entryAt, directory, at, start, extent, nonEmpty, isData, isReference, allZero, inRange, setFits, numbersFit}
-use Rattle.layout.specs.Rules.{linesOf, rule7At, rule7, rule8At, rule8, rule9At, rule9, rule10At, rule10, dataSets, rule11, rule12At, rule12, rule13At, rule13, rule14At, rule14, rules7to14}
+use Rattle.layout.specs.Rules.{linesOf, rule7, rule8At, rule8, rule9At, rule9, rule10At, rule10, dataSets, rule11, rule12At, rule12, rule13At, rule13, rule14At, rule14, rules7to14}
 use Rattle.layout.proofs.Laws.{accepted≢refused, need-accepts, orElse-accepts, orElse-assoc, first-accepts-0}
 use Rattle.layout.proofs.Padded.{padded-at}
 use Rattle.layout.proofs.Sound.{length-directory, at-directory}
@@ -30,12 +30,14 @@ use Rattle.text.specs.Numbers.{numberIn}
 use Rattle.text.specs.declared.Number.{Number as HeldNumber}
 use Rattle.placement.specs.Sets.{Held}
 use Rattle.dsd.specs.Held.{numberFrom}
+use Rattle.sph.specs.LineEnds.{firstBadLine}
 use Rattle.directory.specs.Checks.{setsOf, Headers, Dsds, ReadAll, Checked}
 use Rattle.directory.specs.declared.Sets.{Sets}
 use Rattle.directory.specs.declared.Reading.{Reading}
 use Rattle.dsd.proofs.Numbers.{is-zero, above, from-zero, equals, both-pass}
 use Rattle.dsd.proofs.Fits.{all-four}
 use Rattle.dsd.proofs.Places.{short-number}
+use Rattle.sph.proofs.BadLines.{rule-7}
 
 -- ---- where the DSDs begin
 
@@ -51,9 +53,9 @@ module _ (b : List ℕ) (dsds n : ℕ) (placed : Dsds b dsds n) where
   unfolding part
   length-lines = length-take-le (dsds - 1247) (drop 1247 b) (omega (arith, length-drop 1247 b, placed .inside))
 
-  pub seven : (r : ℕ) → first (rule7At (part b 1247 (dsds - 1247))) 0 (dsds - 1247) ≡ need (eqb r dsds) 7 r 128 → (m : ℕ) → rule7 b m ≡ need (eqb r dsds) 7 r 128
+  pub seven : (r : ℕ) → r ≡ firstBadLine b 1247 dsds → (m : ℕ) → rule7 b m ≡ need (eqb r dsds) 7 r 128
   unfolding rule7 sphLines
-  seven r h m = rw (← placed .begin, length-lines) h
+  seven r h m = rw (← placed .begin, length-lines) (rule-7 b dsds r (placed .behind) h)
 
   pub eight-all : (m : ℕ) → rule8 b m ≡ first (rule8At b) 0 n
   unfolding rule8

@@ -1,6 +1,7 @@
 // The directory of a product (document 01, rules 7 to 14): the numbers of its entries, what is asked of them, and what is answered of all.
 use dsd::Entry;
 use layout::Verdict;
+use values::MainHeader;
 ghost use mathlib.Core.Path.{_≡_};
 ghost use Prim.Native.Nat.{ℕ, _+_, _*_, _-_, _≤_};
 ghost use lib.Dec.{eqb};
@@ -157,7 +158,7 @@ fn check_text(p: &[u8], dsds: usize, entries: usize) -> Verdict
     requires { ⌜ Dsds (now p) dsds entries ⌝ }
     ensures { λ r. ⌜ ((n : ℕ) → verdictIs r ≡ (rule7 (now (p .entry)) n orElse rule8 (now (p .entry)) n)) ⌝ }
 {
-    let bad = sph::first_bad_line(p, dsds);
+    let bad = sph::first_bad_line(p, MainHeader::SIZE, dsds);
     if bad != dsds {
         return Verdict::refuse(7, bad as u64, 128);
     }

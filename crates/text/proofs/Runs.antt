@@ -67,7 +67,7 @@ module _ (t : ℕ → Bool) where
   find-over zero i n h = rw (zero-add n, add-zero i)
   find-over (suc m) i n h = rw (suc-add m n, h i (omega arith) (omega arith), add-suc i m, ← suc-add i m) (find-over m (suc i) n (λ k l u. h k (omega arith) (omega arith)))
 
-  find-past : (i j to : ℕ) → i ≤ j → j ≤ to → ((k : ℕ) → i ≤ k → k < j → t k ≡ false) → find t i (to - i) ≡ find t j (to - j)
+  pub find-past : (i j to : ℕ) → i ≤ j → j ≤ to → ((k : ℕ) → i ≤ k → k < j → t k ≡ false) → find t i (to - i) ≡ find t j (to - j)
   find-past i j to l u h =
       let q : to - i ≡ (j - i) + (to - j) = omega arith in
       let r : i + (j - i) ≡ j = omega arith in
