@@ -3,7 +3,7 @@
 use Prim.Native.Nat.{ℕ, _≤_, _<_}
 use mathlib.Core.Bool.{Bool, true, false, cond, _&&_, _||_, not, and-true, and-false}
 use mathlib.Core.Logic.{_⊎_, inl, inr}
-use mathlib.Core.Path.{_≡_, refl, sym, _∙_}
+use mathlib.Core.Path.{_≡_, sym, _∙_}
 use native.Mathlib.Omega.{arith}
 use lib.Dec.{ltb, eqb}
 use lib.IntN.{pos, negsuc}
@@ -81,7 +81,7 @@ module _ (e : Entry) where
 -- ---- the view's name
 
 module _ (h : HeldEntry) where
-  pub view-kind : kindOf (viewOf h) ≡ cond (ltb (h .«name_role») 5) (h .«name_role») 0
+  view-kind : kindOf (viewOf h) ≡ cond (ltb (h .«name_role») 5) (h .«name_role») 0
   unfolding viewOf
   view-kind = kind-role (viewOf h) ∙ rw (role-text (h .«name_role»)) (go (h .«name_role») (lt-or-le (h .«name_role») 5) (lt-or-le (h .«name_role») 6))
     where

@@ -151,7 +151,7 @@ fn keyword_end(p: &[u8], start: usize, at: usize, to: usize) -> usize
 }
 
 // The place behind the byte 10 of the line that begins at `from`, if it is good and ends before `to`; else `from`.
-pub fn line_end(p: &[u8], from: usize, to: usize) -> usize
+fn line_end(p: &[u8], from: usize, to: usize) -> usize
     requires { ⌜ (from < to) × (to ≤ length (now p)) ⌝ }
     ensures { λ r. ⌜ Ended line (now (p .entry)) from from to r ⌝ }
 {

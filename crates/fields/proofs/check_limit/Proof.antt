@@ -9,7 +9,7 @@ use Rattle.fields.proofs.check_limit.Statement.{statement}
 use Rattle.fields.proofs.check_limit.Tie as tie
 
 -- the code's test is that of the number read
-tested-here : (c : tie.After-in-limits) → inLimits (c .before .before .before .args .most) (signedAt (c .before .before .before .args .bytes .now) (c .before .before .before .args .offset) 4) ≡ c .in-limits .result
+tested-here : (c : tie.After-in-limits) → (let entry = c .before .before .before in inLimits (entry .args .most) (signedAt (entry .args .bytes .now) (entry .args .offset) 4)) ≡ c .in-limits .result
 tested-here c = sym (c .in-limits .ensures ∙ ap (inLimits (c .before .before .before .args .most)) (toZ-ofZ (sfits-of (c .before .signed .ok)) ∙ c .before .signed .ensures .0))
 
 signed-requires : tie.Need-signed-requires
