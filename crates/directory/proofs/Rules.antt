@@ -41,11 +41,13 @@ use Rattle.directory.specs.Checks.{Headers, Dsds, overAt, unfitAt, Count
 use Rattle.directory.specs.declared.DirectoryCheck.{DirectoryCheck}
 use Rattle.directory.proofs.Turns.{place, nine}
 use Rattle.directory.proofs.Held.{not-over, held-same}
+use Rattle.sph.specs.LineEnds.{firstBadLine}
 use Rattle.directory.specs.declared.Sets.{Sets}
 use Rattle.directory.specs.declared.Reading.{Reading}
 use Rattle.dsd.proofs.Numbers.{is-zero, above, from-zero, equals, both-pass}
 use Rattle.dsd.proofs.Fits.{all-four}
 use Rattle.dsd.proofs.Places.{short-number}
+use Rattle.sph.proofs.BadLines.{rule-7}
 
 -- ---- where the DSDs begin
 
@@ -61,9 +63,9 @@ module _ (b : List ℕ) (dsds n : ℕ) (placed : Dsds b dsds n) where
   unfolding part
   length-lines = length-take-le (dsds - 1247) (drop 1247 b) (omega (arith, length-drop 1247 b, placed .inside))
 
-  pub seven : (r : ℕ) → first (rule7At (part b 1247 (dsds - 1247))) 0 (dsds - 1247) ≡ need (eqb r dsds) 7 r 128 → (m : ℕ) → rule7 b m ≡ need (eqb r dsds) 7 r 128
+  pub seven : (r : ℕ) → r ≡ firstBadLine b 1247 dsds → (m : ℕ) → rule7 b m ≡ need (eqb r dsds) 7 r 128
   unfolding rule7 sphLines
-  seven r h m = rw (← placed .begin, length-lines) h
+  seven r h m = rw (← placed .begin, length-lines) (rule-7 b dsds r (placed .behind) h)
 
   pub eight-all : (m : ℕ) → rule8 b m ≡ first (rule8At b) 0 n
   unfolding rule8

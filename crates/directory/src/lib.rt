@@ -3,6 +3,7 @@ use dsd::Entry;
 use layout::Directory;
 use layout::Refusal;
 use layout::Verdict;
+use values::MainHeader;
 use writing::put_text;
 ghost use mathlib.Core.Bool.{cond};
 ghost use mathlib.Core.Path.{_≡_};
@@ -91,7 +92,7 @@ fn check_text(p: &[u8], dsds: usize, entries: usize) -> Verdict
     requires { ⌜ Dsds (now p) dsds entries ⌝ }
     ensures { λ r. ⌜ ((n : ℕ) → verdictIs r ≡ textRules (now (p .entry)) n) ⌝ }
 {
-    let bad = sph::first_bad_line(p, dsds);
+    let bad = sph::first_bad_line(p, MainHeader::SIZE, dsds);
     if bad != dsds {
         return Verdict::refuse(7, bad as u64, 128);
     }

@@ -3,20 +3,19 @@
 use Prim.Native.Nat.{ℕ, _≤_, _<_}
 use mathlib.Core.Bool.{Bool, true, false, cond, _&&_, _||_, not, and-true, and-false}
 use mathlib.Core.Logic.{_⊎_, inl, inr}
-use mathlib.Core.Path.{_≡_, refl, sym, _∙_}
+use mathlib.Core.Path.{_≡_, sym, _∙_}
 use native.Mathlib.Omega.{arith}
 use lib.Dec.{ltb, eqb}
 use lib.IntN.{pos, negsuc}
 use lib.Signed.{leZ, ltZ}
 use borrow.Author.Tests.{eq-eqb, ne-eqb, lt-ltb, le-ltb, le-leb, lt-leb}
-use Rattle.layout.specs.Bytes.{bytes}
 use Rattle.layout.specs.Text.{whole}
-use Rattle.layout.specs.Entries.{Entry, eqZ, called, kindOf, isData, isReference, allZero, inRange, isFixed, isVariable, isStates, setFits, numbersFit}
+use Rattle.layout.specs.Entries.{Entry, eqZ, kindOf, isData, isReference, allZero, inRange, isFixed, isVariable, isStates, setFits, numbersFit}
 use Rattle.layout.proofs.Laws.{lt-or-le}
-use Rattle.dsd.specs.Held.{nameText, numberFrom, viewOf, roleOf}
+use Rattle.dsd.specs.Held.{numberFrom, viewOf, roleOf}
 use Rattle.dsd.specs.declared.Entry.{Entry as HeldEntry}
 use Rattle.dsd.proofs.Numbers.{is-zero, above, from-one, plus, both-pass, is-minus-one}
-use Rattle.dsd.proofs.Names.{kind-role, states-role, role-text}
+use Rattle.dsd.proofs.Names.{kind-role, states-by-role, role-text}
 
 -- ---- a set whose numbers are in range
 
@@ -82,7 +81,7 @@ module _ (e : Entry) where
 -- ---- the view's name
 
 module _ (h : HeldEntry) where
-  pub view-kind : kindOf (viewOf h) ≡ cond (ltb (h .«name_role») 5) (h .«name_role») 0
+  view-kind : kindOf (viewOf h) ≡ cond (ltb (h .«name_role») 5) (h .«name_role») 0
   unfolding viewOf
   view-kind = kind-role (viewOf h) ∙ rw (role-text (h .«name_role»)) (go (h .«name_role») (lt-or-le (h .«name_role») 5) (lt-or-le (h .«name_role») 6))
     where
@@ -91,17 +90,13 @@ module _ (h : HeldEntry) where
       go r (inr l) (inl m) = rw (lt-ltb r 6 m, le-ltb r 5 l)
       go r (inr l) (inr m) = rw (le-ltb r 6 m, le-ltb r 5 l)
 
-  pub view-states : called (viewOf h .name) (bytes "STATES") ≡ eqb (h .«name_role») 5
+  view-states : isStates (viewOf h) ≡ (eqb (h .«ds_type») 65 && eqb (h .«name_role») 5)
   unfolding viewOf
-  view-states = states-role (nameText (h .«name_role»)) ∙ rw (role-text (h .«name_role»)) (go (h .«name_role») (lt-or-le (h .«name_role») 6))
+  view-states = states-by-role (viewOf h) ∙ rw (role-text (h .«name_role»), go (h .«name_role») (lt-or-le (h .«name_role») 6))
     where
       go : (r : ℕ) → (r < 6) ⊎ (6 ≤ r) → eqb (cond (ltb r 6) r 0) 5 ≡ eqb r 5
       go r (inl m) = rw (lt-ltb r 6 m)
       go r (inr m) = rw (le-ltb r 6 m, ne-eqb r 5 (λ e. omega arith))
-
-  view-type : viewOf h .type ≡ h .«ds_type»
-  unfolding viewOf
-  view-type = refl
 
   pub view-named : ltb 0 (kindOf (viewOf h)) ≡ (ltb 0 (h .«name_role») && ltb (h .«name_role») 5)
   view-named = rw view-kind (go (h .«name_role») (lt-or-le (h .«name_role») 5))
@@ -130,13 +125,13 @@ module _ (h : HeldEntry) where
 
   module _ (v : isVariable (viewOf h) ≡ false) where
     pub role-other : (h .«ds_type» ≡ 65 → ⊥) → 0 ≡ roleOf (viewOf h)
-    unfolding roleOf isStates viewOf
-    role-other n = rw (v, ne-eqb (h .«ds_type») 65 n)
+    unfolding roleOf
+    role-other n = rw (v, view-states, ne-eqb (h .«ds_type») 65 n)
 
     pub role-states : h .«ds_type» ≡ 65 → h .«name_role» ≡ 5 → 5 ≡ roleOf (viewOf h)
-    unfolding roleOf isStates
-    role-states t n = rw (v, view-states, eq-eqb (h .«name_role») 5 n, eq-eqb (viewOf h .type) 65 (view-type ∙ t))
+    unfolding roleOf
+    role-states t n = rw (v, view-states, eq-eqb (h .«name_role») 5 n, eq-eqb (h .«ds_type») 65 t)
 
     pub role-none : (h .«name_role» ≡ 5 → ⊥) → 0 ≡ roleOf (viewOf h)
-    unfolding roleOf isStates
+    unfolding roleOf
     role-none n = rw (v, view-states, ne-eqb (h .«name_role») 5 n, and-false)

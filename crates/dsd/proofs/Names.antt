@@ -14,7 +14,7 @@ use lib.Seq.{drop-cons, drop-length}
 use borrow.Author.Tests.{eq-eqb, ne-eqb, eqb-true, eqb-false, lt-ltb, le-ltb}
 use Rattle.layout.specs.Bytes.{bytes, part, byteAt}
 use Rattle.layout.specs.Search.{find}
-use Rattle.layout.specs.Entries.{Entry, called, kindOf}
+use Rattle.layout.specs.Entries.{Entry, called, kindOf, isStates}
 use Rattle.layout.proofs.Laws.{lt-or-le}
 use Rattle.text.specs.Blanks.{notBlank}
 use Rattle.text.proofs.Parts.{part-cons, part-end}
@@ -79,6 +79,7 @@ kind-role e =
     go false false false false true = refl
     go false false false false false = refl
 
+-- the states' name is the one of role 5
 pub states-role : (name : List ℕ) → called name (bytes "STATES") ≡ eqb (nameRole name) 5
 unfolding nameRole
 states-role name =
@@ -94,6 +95,11 @@ states-role name =
     go false false false true s hn hl ho hm = hm refl
     go false false false false true hn hl ho hm = refl
     go false false false false false hn hl ho hm = refl
+
+-- the states are a set of type A and role 5
+pub states-by-role : (e : Entry) → isStates e ≡ (eqb (e .type) 65 && eqb (nameRole (e .name)) 5)
+unfolding isStates
+states-by-role e = rw (states-role (e .name))
 
 abbrev text : Bool → Bool → Bool → Bool → Bool → List ℕ
 text a b c d e = cond a (bytes "NADIR") (cond b (bytes "LIMB") (cond c (bytes "OCCULTATION") (cond d (bytes "MONITORING") (cond e (bytes "STATES") []))))
@@ -118,7 +124,8 @@ role-text r = go (eqb r 1) refl (eqb r 2) refl (eqb r 3) refl (eqb r 4) refl (eq
         (λ u. rw (le-ltb r 6 u))
         (lt-or-le r 6)
 
-role-most : (name : List ℕ) → nameRole name < 6
+-- no role is above 5
+pub role-most : (name : List ℕ) → nameRole name < 6
 unfolding nameRole
 role-most name =
     go (called name (bytes "NADIR")) (called name (bytes "LIMB")) (called name (bytes "OCCULTATION")) (called name (bytes "MONITORING")) (called name (bytes "STATES"))

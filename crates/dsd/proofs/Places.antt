@@ -90,7 +90,7 @@ number-most (x ∷ xs) e h =
     omega arith
 
 module _ (b : List ℕ) (bytes : (k : ℕ) → getD b k 0 < 256) (at : ℕ) (fits : at + 11 ≤ length b) where
-  pub short-most : numberOf (part b at 11) .magnitude ≤ 999999999999
+  short-most : numberOf (part b at 11) .magnitude ≤ 999999999999
   unfolding part
   short-most =
       let e : length (take 11 (drop at b)) ≡ 11 = length-take-le 11 (drop at b) (omega (arith, length-drop at b)) in

@@ -8,15 +8,14 @@ use mathlib.Core.Path.{_≡_, refl, sym, ap, _∙_}
 use native.Mathlib.Omega.{arith}
 use lib.Dec.{leb}
 use borrow.Author.Tests.{le-leb, lt-leb, leb-true}
-use Rattle.layout.specs.Bytes.{bytes}
 use Rattle.layout.specs.Text.{whole}
-use Rattle.layout.specs.Entries.{Entry, largestSigned, called, start, extent, kindOf, isData, isReference, isVariable, isStates, allZero, inRange, isFixed, setFits, numbersFit}
+use Rattle.layout.specs.Entries.{Entry, largestSigned, start, extent, kindOf, isData, isReference, isVariable, isStates, allZero, inRange, isFixed, setFits, numbersFit}
 use Rattle.layout.specs.Answers.{typeOf, countOf, recordSizeOf}
 use Rattle.layout.proofs.Laws.{lt-or-le}
 use Rattle.text.specs.Numbers.{capped, wholeIn}
 use Rattle.dsd.specs.declared.Entry.{Entry as HeldEntry}
 use Rattle.dsd.specs.Held.{nameRole, nameText, numberFrom, heldOf, viewOf, overPlace, roleOf}
-use Rattle.dsd.proofs.Names.{kind-role, states-role, role-again}
+use Rattle.dsd.proofs.Names.{kind-role, states-by-role, role-again}
 
 -- ---- numbers held at 2^63
 
@@ -63,8 +62,8 @@ module _ (e : Entry) where
   same-kind : kindOf by-role ≡ kindOf e
   same-kind = kind-role by-role ∙ rw (role-again (e .name)) (sym (kind-role e))
 
-  same-states : called (nameText (nameRole (e .name))) (bytes "STATES") ≡ called (e .name) (bytes "STATES")
-  same-states = states-role (nameText (nameRole (e .name))) ∙ rw (role-again (e .name)) (sym (states-role (e .name)))
+  same-states : isStates by-role ≡ isStates e
+  same-states = states-by-role by-role ∙ rw (role-again (e .name)) (sym (states-by-role e))
 
   same-variable : isVariable by-role ≡ isVariable e
   unfolding isVariable
@@ -75,7 +74,7 @@ module _ (e : Entry) where
   same-fits = rw same-variable
 
   same-role : roleOf by-role ≡ roleOf e
-  unfolding roleOf isStates
+  unfolding roleOf
   same-role = rw (same-variable, same-kind, same-states)
 
   module _ (ok : overPlace (viewOf (heldOf e)) ≡ 0) where

@@ -25,8 +25,8 @@ fn is_called(p: &[u8], start: usize, name: &[u8]) -> bool
     text::first_not_blank(p, start + i, start + 28) == start + 28
 }
 
-// What a set of this name may be: of the kinds 1 to 4 of source 003's level 1b name table, or the states, 5.
-fn role_of_name(p: &[u8], start: usize) -> u8
+// What a set may be whose name is the 28 bytes from `start` on: of the kinds 1 to 4 of source 003's level 1b name table, or the states, 5; else 0.
+pub fn role_of_name(p: &[u8], start: usize) -> u8
     requires { ⌜ start + 28 ≤ length (now p) ⌝ }
     ensures { λ r. ⌜ r ≡ nameRole (part (now (p .entry)) start 28) ⌝ }
 {

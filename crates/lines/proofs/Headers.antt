@@ -18,7 +18,7 @@ use Rattle.layout.specs.Answer.{need, _orElse_}
 use Rattle.layout.specs.Search.{laidOut}
 use Rattle.layout.proofs.Laws.{laidOut-take}
 use Rattle.text.proofs.Parts.{byte-part}
-use Rattle.lines.specs.Table.{badPlace}
+use Rattle.lines.specs.Table.{badPlace, DsdChecked}
 use Rattle.lines.proofs.Spans.{bad-bounds}
 
 answer : (n e : ℕ) (ks : List Class) (b : List ℕ) (p : ℕ) → p + length ks ≤ length b
@@ -55,8 +55,7 @@ module _ (b : List ℕ) (at : ℕ) where
   unfolding linesOf
   dsd-lines h = rw (first-byte, ne-eqb (getD b at 0) 32 h)
 
-  pub dsd-answer : (ls : List Line) (r : ℕ) → linesOf (part b at sizeOfDsd) ≡ ls → length (layout ls) ≡ sizeOfDsd → r ≡ badPlace (layout ls) b at → at + sizeOfDsd ≤ length b
-      → (e : ℕ) → laidOut 8 e at (layout (linesOf (part b at sizeOfDsd))) (part b at sizeOfDsd) ≡ need (eqb r (at + sizeOfDsd)) 8 r e
+  pub dsd-answer : (ls : List Line) (r : ℕ) → linesOf (part b at sizeOfDsd) ≡ ls → length (layout ls) ≡ sizeOfDsd → r ≡ badPlace (layout ls) b at → at + sizeOfDsd ≤ length b → DsdChecked b at r
   unfolding part
   dsd-answer ls r which long found h e =
       rw which (laidOut-take 8 e (layout ls) (drop at b) at sizeOfDsd (omega arith) ∙ header-answer 8 e (layout ls) b at r (at + sizeOfDsd) found (omega arith) h)

@@ -1,4 +1,4 @@
-pub mod Spans
-pub mod Values
-pub mod Rows
-pub mod Headers
+mod Spans
+mod Values
+mod Rows
+mod Headers

@@ -15,13 +15,13 @@ use Rattle.layout.specs.Bytes.{part}
 use Rattle.layout.specs.Text.{Class, Line, exactly, plain, digit, literal, s, sAB, valueClasses, layout}
 use Rattle.layout.proofs.Laws.{and-T}
 use Rattle.lines.specs.declared.Row.{Row}
-use Rattle.lines.specs.Table.{badPlace, valueLaid, widthFits, rowLaid, rowFits, rowOf, rowsLaid, rowsFit, tableLaid, tableFits, TableOf}
+use Rattle.lines.specs.Table.{badPlace, valueLaid, widthFits, rowLaid, rowFits, rowOf, rowsLaid, rowsFit, tableFits, badByTable, TableOf}
 use Rattle.lines.proofs.Spans.{after-good, after-bad, length-literal}
 use Rattle.lines.proofs.Values.{text-laid, blanks-laid, flag-laid, type-laid, whole-laid, thousandths-laid, millionths-laid, flag-width, type-width, whole-width, thousandths-width, millionths-width}
 
 -- ---- how long the spans are
 
-pub length-span : (t : List ℕ) (from to : ℕ) → from ≤ to → to ≤ length t → length (literal (part t from (to - from))) ≡ to - from
+length-span : (t : List ℕ) (from to : ℕ) → from ≤ to → to ≤ length t → length (literal (part t from (to - from))) ≡ to - from
 unfolding part
 length-span t from to h l = length-literal (part t from (to - from)) ∙ length-take-le (to - from) (drop from t) (rw (length-drop from t) (omega arith))
 
@@ -33,7 +33,7 @@ length-decimal : (a d : ℕ) → length (valueClasses (sAB a d)) ≡ a + (d + 2)
 unfolding valueClasses
 length-decimal a d = rw (length-append (replicate a digit) (exactly 46 ∷ replicate d digit), length-replicate a digit, length-replicate d digit) (omega arith)
 
-pub length-value : (k w : ℕ) → T (widthFits k w) → length (valueLaid k w) ≡ w
+length-value : (k w : ℕ) → T (widthFits k w) → length (valueLaid k w) ≡ w
 length-value k w h = one (eqb k 113) refl
   where
     six : eqb k 113 ≡ false → eqb k 32 ≡ false → eqb k 102 ≡ false → eqb k 116 ≡ false → eqb k 115 ≡ false → (t : Bool) → eqb k 109 ≡ t → length (valueLaid k w) ≡ w
@@ -128,9 +128,9 @@ module _ (t starts keys kinds widths : List ℕ) where
       record { starts′ = eqb→eq _ _ (a .0); keys′ = eqb→eq _ _ (b .0); widths′ = eqb→eq _ _ (c .0); rows = c .1 }
 
   -- the first bad place of the rows is that of the lines whose table it is
-  pub table-place : (b : List ℕ) (r : ℕ) → r ≡ badPlace (rowsLaid t (rowOf starts keys kinds widths) 0 0 (length kinds)) b 0
+  pub table-place : (b : List ℕ) (r : ℕ) → r ≡ badByTable t starts keys kinds widths b
       → (ls : List Line) → TableOf ls t starts keys kinds widths → r ≡ badPlace (layout ls) b 0
-  unfolding tableLaid
+  unfolding badByTable
   table-place b r found ls so = found ∙ ap (λ (ks : List Class). badPlace ks b 0) (so .laid)
 
 -- before the row i of n, where the values end at `from`: what is left fits, and decides the whole

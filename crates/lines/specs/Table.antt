@@ -8,6 +8,10 @@ use mathlib.Core.Path.{_≡_}
 use lib.Dec.{leb, eqb}
 use lib.ListN.{length, getD, replicate}
 use Rattle.layout.specs.Bytes.{bytes, part, byteAt}
+use Rattle.layout.specs.Answer.{need}
+use Rattle.layout.specs.Lines.{sizeOfDsd}
+use Rattle.layout.specs.Rules.{linesOf}
+use Rattle.layout.specs.Search.{laidOut}
 use Rattle.layout.specs.Text.{Class, exactly, plain, among, fits, Line, named, spare, s, sAB, literal, valueClasses, layout, valueWidth, startsOf}
 use Rattle.lines.specs.declared.Row.{Row}
 
@@ -75,6 +79,10 @@ tableFits t starts keys kinds widths =
     eqb (length starts) (length kinds)
     && (eqb (length keys) (length kinds) && (eqb (length widths) (length kinds) && rowsFit (length t) (rowOf starts keys kinds widths) 0 0 (length kinds)))
 
+-- the first place of b that is not as the table lays out; the place behind it where there is none
+unfoldable pub badByTable : List ℕ → List ℕ → List ℕ → List ℕ → List ℕ → List ℕ → ℕ
+badByTable t starts keys kinds widths b = badPlace (tableLaid t starts keys kinds widths) b 0
+
 -- ---- a table of lines of document 01
 
 -- the bytes of a line's value; of a spare, its blanks
@@ -87,3 +95,10 @@ pub record TableOf (ls : List Line) (t starts keys kinds widths : List ℕ) : Ty
   pub begin : starts ≡ startsOf 0 ls  -- which begins where the line does
   pub wide : widths ≡ map widthIn ls  -- as wide as the line's value
   pub laid : tableLaid t starts keys kinds widths ≡ layout ls  -- and with the lines' layout, so that kinds, keys and template are right too
+
+-- ---- a DSD
+
+-- r is the first byte of the DSD at a place that is not as laid out, or the DSD's end: what rule 8 answers of it, whatever its entry
+abbrev pub DsdChecked : List ℕ → ℕ → ℕ → Type 0
+DsdChecked b at r =
+    (e : ℕ) → laidOut 8 e at (layout (linesOf (part b at sizeOfDsd))) (part b at sizeOfDsd) ≡ need (eqb r (at + sizeOfDsd)) 8 r e

@@ -4,19 +4,17 @@
 use dsd::Entry;
 use values::MainHeader;
 ghost use mathlib.Core.Path.{_≡_};
-ghost use Prim.Native.Nat.{ℕ, _+_, _-_, _≤_, _<_};
+ghost use Prim.Native.Nat.{_+_, _-_, _≤_, _<_};
 ghost use mathlib.Core.Bool.{not};
-ghost use mathlib.Core.List.{List};
 ghost use lib.Dec.{T, eqb};
 ghost use lib.ListN.{length};
 ghost use Rattle.layout.specs.Bytes.{bytes, part};
 ghost use Rattle.layout.specs.Answer.{need};
 ghost use Rattle.layout.specs.Lines.{sizeOfMph, sizeOfDsd, mph};
-ghost use Rattle.layout.specs.Rules.{linesOf};
 ghost use Rattle.layout.specs.Search.{some, laidOut};
-ghost use Rattle.layout.specs.Text.{Line, layout, sign, among, fits, spare, s, sAB, literal, valueClasses, lineClasses};
+ghost use Rattle.layout.specs.Text.{layout, sign, among, fits, spare, s, sAB, literal, valueClasses, lineClasses};
 ghost use Rattle.text.specs.Runs.{Skipped};
-ghost use Rattle.lines.specs.Table.{badPlace, differs, valueLaid, widthFits, rowLaid, rowFits, rowOf, tableFits, TableOf};
+ghost use Rattle.lines.specs.Table.{badPlace, differs, valueLaid, widthFits, rowLaid, rowFits, rowOf, tableFits, badByTable, DsdChecked};
 
 // The kinds of a table, after the notation of document 01: a spare; text, of q or c; a flag, 0 or 1; a type, one of M A G R; a sign and digits, s;
 // the same with a point and three decimals, or (u, the one kind left) six.
@@ -452,7 +450,7 @@ fn lines_check(
     widths: &[u8],
 ) -> usize
     requires { ⌜ T (tableFits (now template) (now starts) (now keys) (now kinds) (now widths)) × (length (now template) ≤ length (now p)) ⌝ }
-    ensures { λ r. ⌜ ((ls : List Line) → TableOf ls (now (template .entry)) (now (starts .entry)) (now (keys .entry)) (now (kinds .entry)) (now (widths .entry)) → r ≡ badPlace (layout ls) (now (p .entry)) 0) ⌝ }
+    ensures { λ r. ⌜ r ≡ badByTable (now (template .entry)) (now (starts .entry)) (now (keys .entry)) (now (kinds .entry)) (now (widths .entry)) (now (p .entry)) ⌝ }
 {
     let mut from = 0;
     let mut i = 0;
@@ -487,7 +485,7 @@ pub fn main_header_check(p: &[u8]) -> usize
 // The same of the DSD that begins at `at`. A DSD whose first byte is a blank is a spare.
 pub fn dsd_check(p: &[u8], at: usize) -> usize
     requires { ⌜ at + sizeOfDsd ≤ length (now p) ⌝ }
-    ensures { λ r. ⌜ ((e : ℕ) → laidOut 8 e at (layout (linesOf (part (now (p .entry)) at sizeOfDsd))) (part (now (p .entry)) at sizeOfDsd) ≡ need (eqb r (at + sizeOfDsd)) 8 r e) ⌝ }
+    ensures { λ r. ⌜ DsdChecked (now (p .entry)) at r ⌝ }
 {
     if p[at] == b' ' {
         return spare_check(p, at, Entry::SIZE - 1);

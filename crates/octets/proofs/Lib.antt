@@ -1,3 +1,3 @@
 -- The laws that the proofs of this crate cite. Assumes nothing.
 pub mod Digits
-pub mod Nan
+mod Nan

@@ -17,7 +17,7 @@ use Rattle.layout.specs.declared.PointAnswer.the-variants as answers
 use Rattle.layout.proofs.Replies.{before-is}
 use Rattle.values.proofs.Values.{part-bytes}
 use Rattle.quotient.proofs.Close.{Close}
-use Rattle.points.proofs.Distance.{point-in-close}
+use Rattle.fields.proofs.Distance.{point-in-close}
 
 module _ (b : List ℕ) (bytes : (k : ℕ) → getD b k 0 < 256) (i j : ℕ) where
   record-bytes : (k : ℕ) → getD (recordOf b i j) k 0 < 256

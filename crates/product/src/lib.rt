@@ -149,7 +149,7 @@ pub fn point_at(
 {
     match record_place(p, entry, asked) {
         Place::At { place, length } => {
-            points::point_in(
+            fields::point_in(
                 part_at(p, place, length),
                 entry,
                 latitude,

@@ -1,5 +1,5 @@
 -- How close the quotients are, over whole numbers. Assumes nothing.
 pub mod Close
-pub mod Near
-pub mod Quotient
+mod Near
+mod Quotient
 pub mod Theorems

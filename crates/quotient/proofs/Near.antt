@@ -55,7 +55,7 @@ nearest-near q r b Ordering·eq c l = elim (even-or-odd q) [
 ]
 nearest-near q r b Ordering·gt c l = rw (suc-mul q b) (up-near (q * b) r b (omega arith) l)
 
-pub closest-near : (a b : ℕ) → 0 < b → Within (closest a b * b) a b
+closest-near : (a b : ℕ) → 0 < b → Within (closest a b * b) a b
 closest-near a b B = subst (λ (x : ℕ). Within (closest a b * b) x b) (div-add-mod' a b) (nearest-near (a / b) (a % b) b (compare (a % b * 2) b) (cmp (a % b * 2) b) (mod-lt a B))
 
 -- ---- x is ±n / 2 ^ t exactly, and n / 2 ^ t is num / den with an error of 2 ^ h / 2 ^ t at most

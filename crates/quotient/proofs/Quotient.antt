@@ -34,7 +34,7 @@ unlike-false : (s : Bool) → unlike s false ≡ s
 unlike-false true = refl
 unlike-false false = refl
 
-pub div-is : (f : Format) (x y : Float) (s : Bool) (v den : ℕ) → 0 < den → HasValue x s v 1 → HasValue y false den 1 → div f x y ≡ round f s v den
+div-is : (f : Format) (x y : Float) (s : Bool) (v den : ℕ) → 0 < den → HasValue x s v 1 → HasValue y false den 1 → div f x y ≡ round f s v den
 unfolding div
 div-is f nan y s v den D h k = absurd h
 div-is f (inf t) y s v den D h k = absurd h
@@ -106,7 +106,7 @@ cut (fin w m e) s n t v = (
   ap₂ signed (v .0) (ap (λ (x : ℕ). x / down e) (v .1) ∙ mul-div-cancel n (down-pos e)),
 )
 
-pub close-of-near : (x : Float) (s : Bool) (v den t h : ℕ) → Near x s v den t h → Close x (signed s v) den t h
+close-of-near : (x : Float) (s : Bool) (v den t h : ℕ) → Near x s v den t h → Close x (signed s v) den t h
 close-of-near x s v den t h r =
     let c = cut x s (r .n) t (r .value) in
     record {
@@ -115,7 +115,7 @@ close-of-near x s v den t h r =
     }
 
 -- ---- the law: v / den rounded once, for a v of the sign s
-pub div-close : (f : Format) (x y : Float) (s : Bool) (v den t d h : ℕ) → HasValue x s v 1 → HasValue y false den 1 → low f ≡ t + d → 0 < den
+div-close : (f : Format) (x y : Float) (s : Bool) (v den t d h : ℕ) → HasValue x s v 1 → HasValue y false den 1 → low f ≡ t + d → 0 < den
     → (0 < v → den * 2 ^ (prec f - 1) ≤ v * 2 ^ t) → v * 2 ^ t < den * 2 ^ (prec f + suc h) → prec f + h < t + emax f → Close (div f x y) (signed s v) den t h
 div-close f x y s v den t d h a b split D normal small fine =
     rw (div-is f x y s v den D a b) (close-of-near (round f s v den) s v den t h (go (eq-zero-or-pos v)))

@@ -1,2 +1,2 @@
-pub mod LineEnds
+mod LineEnds
 pub mod BadLines

@@ -2,20 +2,14 @@
 ghost use mathlib.Core.Path.{_≡_};
 ghost use Prim.Native.Nat.{_+_, _-_, _<_, _≤_};
 ghost use mathlib.Core.Bool.{not};
-ghost use lib.Dec.{eqb};
 ghost use lib.ListN.{length};
-ghost use Rattle.layout.specs.Answer.{need};
-ghost use Rattle.layout.specs.Bytes.{part};
-ghost use Rattle.layout.specs.Lines.{sizeOfMph};
-ghost use Rattle.layout.specs.Rules.{rule7At};
-ghost use Rattle.layout.specs.Search.{some, find, first};
+ghost use Rattle.layout.specs.Search.{some, find};
 ghost use Rattle.layout.specs.Sph.{ended, blanks, unquoted, quoted, value, keyword, line};
 ghost use Rattle.text.specs.Runs.{fails, Skipped};
-ghost use Rattle.sph.specs.LineEnds.{inKeyword, Ended};
+ghost use Rattle.sph.specs.LineEnds.{inKeyword, Ended, firstBadLine};
 use text::first_not_blank;
 use text::first_not_plain;
 use text::is_plain;
-use values::MainHeader;
 
 // The run of a keyword's bytes, as `text` has the runs of other classes.
 
@@ -157,7 +151,7 @@ fn keyword_end(p: &[u8], start: usize, at: usize, to: usize) -> usize
 }
 
 // The place behind the byte 10 of the line that begins at `from`, if it is good and ends before `to`; else `from`.
-pub fn line_end(p: &[u8], from: usize, to: usize) -> usize
+fn line_end(p: &[u8], from: usize, to: usize) -> usize
     requires { ⌜ (from < to) × (to ≤ length (now p)) ⌝ }
     ensures { λ r. ⌜ Ended line (now (p .entry)) from from to r ⌝ }
 {
@@ -174,12 +168,12 @@ pub fn line_end(p: &[u8], from: usize, to: usize) -> usize
     keyword_end(p, from, from + 1, to)
 }
 
-// The first byte of the first bad or unended line of the SPH before its DSDs, which begin at `to`; or `to` (rule 7).
-pub fn first_bad_line(p: &[u8], to: usize) -> usize
-    requires { ⌜ (sizeOfMph ≤ to) × (to ≤ length (now p)) ⌝ }
-    ensures { λ r. ⌜ first (rule7At (part (now (p .entry)) sizeOfMph (to - sizeOfMph))) 0 (to - sizeOfMph) ≡ need (eqb r to) 7 r 128 ⌝ }
+// The first byte of the first bad or unended line of those in `from..to`, or `to` (rule 7, from the end of the main header to the DSDs).
+pub fn first_bad_line(p: &[u8], from: usize, to: usize) -> usize
+    requires { ⌜ (from ≤ to) × (to ≤ length (now p)) ⌝ }
+    ensures { λ r. ⌜ r ≡ firstBadLine (now (p .entry)) from to ⌝ }
 {
-    let mut start = MainHeader::SIZE;
+    let mut start = from;
     while start < to {
         let end = line_end(p, start, to);
         if end == start {

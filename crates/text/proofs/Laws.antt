@@ -14,7 +14,7 @@ use Rattle.text.specs.Numbers.{capped, numberIn, wholeIn}
 
 module _ (b : List ℕ) (at width : ℕ) where
   -- the sign is the true one
-  pub minus-true : numberIn b at width .minus ≡ numberOf (part b at width) .minus
+  minus-true : numberIn b at width .minus ≡ numberOf (part b at width) .minus
   unfolding numberIn
   minus-true = refl
 
@@ -40,8 +40,3 @@ module _ (b : List ℕ) (at width : ℕ) where
   pub whole-true : numberIn b at width .magnitude ≤ 9223372036854775807 → wholeIn (numberIn b at width) ≡ whole (numberOf (part b at width))
   unfolding wholeIn whole
   whole-true h = rw (magnitude-true h, minus-true)
-
-  -- the magnitude held is at most 2^63
-  pub magnitude-most : numberIn b at width .magnitude ≤ 9223372036854775808
-  unfolding numberIn capped
-  magnitude-most = omega arith

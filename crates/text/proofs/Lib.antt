@@ -1,5 +1,5 @@
 pub mod Tests
 pub mod Runs
 pub mod Parts
-pub mod Numbers
+mod Numbers
 pub mod Laws

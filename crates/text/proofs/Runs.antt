@@ -1,7 +1,7 @@
 -- Runs of bytes of one class, over any test t that a bad place passes: some places tested as a whole, and the blocks of a search.
 -- Assumes nothing.
 use Prim.Native.Nat.{ℕ, zero, suc, _+_, _-_, _≤_, _<_}
-use mathlib.Core.Bool.{Bool, true, false, _&&_, _||_, not}
+use mathlib.Core.Bool.{Bool, true, false, _&&_, _||_, not, or-false, or-assoc}
 use mathlib.Core.Logic.{⊎-elim}
 use mathlib.Core.Path.{_≡_, refl, sym, _∙_}
 use native.Mathlib.Omega.{arith}
@@ -18,15 +18,7 @@ module _ (t : ℕ → Bool) where
   some-more : (n i : ℕ) → some t i (suc n) ≡ (some t i n || t (i + n))
   unfolding some
   some-more zero i = rw (add-zero i) (or-false (t i))
-    where
-      or-false : (u : Bool) → (u || false) ≡ u
-      or-false true = refl
-      or-false false = refl
   some-more (suc n) i = rw (some-more n (suc i), add-suc i n, ← suc-add i n) (sym (or-assoc (t i) (some t (suc i) n) (t (suc i + n))))
-    where
-      or-assoc : (a b c : Bool) → ((a || b) || c) ≡ (a || (b || c))
-      or-assoc true b c = refl
-      or-assoc false b c = refl
 
   -- before the first place, one place more, and the last
   pub all-none : (at : ℕ) → true ≡ not (some t at 0)
@@ -67,7 +59,7 @@ module _ (t : ℕ → Bool) where
   find-over zero i n h = rw (zero-add n, add-zero i)
   find-over (suc m) i n h = rw (suc-add m n, h i (omega arith) (omega arith), add-suc i m, ← suc-add i m) (find-over m (suc i) n (λ k l u. h k (omega arith) (omega arith)))
 
-  find-past : (i j to : ℕ) → i ≤ j → j ≤ to → ((k : ℕ) → i ≤ k → k < j → t k ≡ false) → find t i (to - i) ≡ find t j (to - j)
+  pub find-past : (i j to : ℕ) → i ≤ j → j ≤ to → ((k : ℕ) → i ≤ k → k < j → t k ≡ false) → find t i (to - i) ≡ find t j (to - j)
   find-past i j to l u h =
       let q : to - i ≡ (j - i) + (to - j) = omega arith in
       let r : i + (j - i) ≡ j = omega arith in

@@ -6,31 +6,7 @@ use twin::words::{Answer, Call};
 
 use crate::library::{ask, ROOM_TOO_SHORT, WRITTEN};
 use crate::report::{report, report_of_product, Asked};
-use crate::rooms::{as_doubles, Room};
-
-/// The lengths of the rooms that are lent, in elements.
-#[derive(Clone, Copy, Debug, PartialEq, Eq)]
-pub struct Lengths {
-    pub words: usize,
-    pub bytes: usize,
-    pub doubles: usize,
-}
-
-impl Lengths {
-    /// What an answer takes.
-    pub fn of(answer: &Answer) -> Lengths {
-        Lengths {
-            words: answer.words.len(),
-            bytes: answer.bytes.len(),
-            doubles: answer.double_bits.len(),
-        }
-    }
-
-    /// So many elements more of each.
-    pub fn and(self, more: usize) -> Lengths {
-        Lengths { words: self.words + more, bytes: self.bytes + more, doubles: self.doubles + more }
-    }
-}
+use crate::rooms::{as_doubles, Lengths, Room};
 
 /// The rooms that are lent again and again.
 pub struct Comparer {

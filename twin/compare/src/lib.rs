@@ -7,5 +7,6 @@ mod product_calls;
 mod report;
 mod rooms;
 
-pub use comparing::{Comparer, Lengths};
+pub use comparing::Comparer;
 pub use mapping::Mapping;
+pub use rooms::Lengths;

@@ -93,38 +93,40 @@ extern "C" {
 // Safety, for every call below: a slice's pointer is not null and good for its length, and the borrows keep the
 // rooms apart from the product and from each other, which is all that the header asks.
 
+/// A call that takes the product alone and writes words.
+type Words = unsafe extern "C" fn(*const u8, usize, *mut u64, usize) -> u32;
+/// One that writes bytes beside them.
+type WordsAndBytes = unsafe extern "C" fn(*const u8, usize, *mut u64, usize, *mut u8, usize) -> u32;
+
+fn ask_words(call: Words, product: &[u8], words: &mut [u64]) -> u32 {
+    unsafe { call(product.as_ptr(), product.len(), words.as_mut_ptr(), words.len()) }
+}
+
+fn ask_words_and_bytes(
+    call: WordsAndBytes,
+    product: &[u8],
+    words: &mut [u64],
+    bytes: &mut [u8],
+) -> u32 {
+    let (start, length) = (product.as_ptr(), product.len());
+    let (room, bytes_room) = (words.as_mut_ptr(), bytes.as_mut_ptr());
+    unsafe { call(start, length, room, words.len(), bytes_room, bytes.len()) }
+}
+
 pub fn judge(product: &[u8], words: &mut [u64]) -> u32 {
-    unsafe { ambrothel_judge(product.as_ptr(), product.len(), words.as_mut_ptr(), words.len()) }
+    ask_words(ambrothel_judge, product, words)
 }
 
 pub fn open_directory(product: &[u8], words: &mut [u64], texts: &mut [u8]) -> u32 {
-    let (start, length) = (product.as_ptr(), product.len());
-    let (room, texts_room) = (words.as_mut_ptr(), texts.as_mut_ptr());
-    unsafe { ambrothel_open_directory(start, length, room, words.len(), texts_room, texts.len()) }
+    ask_words_and_bytes(ambrothel_open_directory, product, words, texts)
 }
 
-pub fn header_values(product: &[u8], words: &mut [u64], texts: &mut [u8]) -> u32 {
-    let (start, length) = (product.as_ptr(), product.len());
-    let (room, texts_room) = (words.as_mut_ptr(), texts.as_mut_ptr());
-    unsafe { ambrothel_header_values(start, length, room, words.len(), texts_room, texts.len()) }
-}
-
-pub fn sph_place(product: &[u8], words: &mut [u64]) -> u32 {
-    unsafe { ambrothel_sph_place(product.as_ptr(), product.len(), words.as_mut_ptr(), words.len()) }
-}
-
-pub fn sph_part(product: &[u8], words: &mut [u64], bytes: &mut [u8]) -> u32 {
-    let (start, length) = (product.as_ptr(), product.len());
-    let (room, bytes_room) = (words.as_mut_ptr(), bytes.as_mut_ptr());
-    unsafe { ambrothel_sph_part(start, length, room, words.len(), bytes_room, bytes.len()) }
-}
-
-pub fn record_place(product: &[u8], entry: usize, record: usize, words: &mut [u64]) -> u32 {
+fn record_place(product: &[u8], entry: usize, record: usize, words: &mut [u64]) -> u32 {
     let (start, length, room) = (product.as_ptr(), product.len(), words.as_mut_ptr());
     unsafe { ambrothel_record_place(start, length, entry, record, room, words.len()) }
 }
 
-pub fn record_part(
+fn record_part(
     product: &[u8],
     entry: usize,
     record: usize,
@@ -138,7 +140,7 @@ pub fn record_part(
     }
 }
 
-pub fn field_at(
+fn field_at(
     product: &[u8],
     entry: usize,
     record: usize,
@@ -150,7 +152,7 @@ pub fn field_at(
     unsafe { ambrothel_field_at(start, length, entry, record, offset, kind, room, words.len()) }
 }
 
-pub fn point_at(
+fn point_at(
     product: &[u8],
     entry: usize,
     record: usize,
@@ -180,9 +182,9 @@ pub fn ask(product: &[u8], call: &Call, words: &mut [u64], bytes: &mut [u8], poi
     match *call {
         Call::Judge => judge(product, words),
         Call::OpenDirectory => open_directory(product, words, bytes),
-        Call::HeaderValues => header_values(product, words, bytes),
-        Call::SphPlace => sph_place(product, words),
-        Call::SphPart => sph_part(product, words, bytes),
+        Call::HeaderValues => ask_words_and_bytes(ambrothel_header_values, product, words, bytes),
+        Call::SphPlace => ask_words(ambrothel_sph_place, product, words),
+        Call::SphPart => ask_words_and_bytes(ambrothel_sph_part, product, words, bytes),
         Call::RecordPlace { entry, record } => record_place(product, entry, record, words),
         Call::RecordPart { entry, record } => record_part(product, entry, record, words, bytes),
         Call::FieldAt { entry, record, offset, kind } => {

@@ -6,7 +6,7 @@ use std::sync::atomic::{AtomicUsize, Ordering};
 
 use twin::words::{Answer, Call};
 
-use crate::comparing::Lengths;
+use crate::rooms::Lengths;
 
 /// The longest product that is written whole; of a longer one, its headers.
 const LONGEST_WRITTEN: usize = 100_000_000;

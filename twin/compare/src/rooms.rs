@@ -1,5 +1,7 @@
 //! A room that is lent: filled with a pattern, and with elements before and behind it that are not lent.
 
+use twin::words::Answer;
+
 /// The elements on each side of a room that are not lent.
 const GUARD: usize = 8;
 
@@ -41,6 +43,30 @@ impl<T: Copy + PartialEq> Room<T> {
     /// Whether the room begins with the answer and nothing else was written.
     pub fn holds(&self, answer: &[T]) -> bool {
         self.lent().starts_with(answer) && self.is_untouched_behind(answer.len())
+    }
+}
+
+/// The lengths of the rooms that are lent, in elements.
+#[derive(Clone, Copy, Debug, PartialEq, Eq)]
+pub struct Lengths {
+    pub words: usize,
+    pub bytes: usize,
+    pub doubles: usize,
+}
+
+impl Lengths {
+    /// What an answer takes.
+    pub fn of(answer: &Answer) -> Lengths {
+        Lengths {
+            words: answer.words.len(),
+            bytes: answer.bytes.len(),
+            doubles: answer.double_bits.len(),
+        }
+    }
+
+    /// So many elements more of each.
+    pub fn and(self, more: usize) -> Lengths {
+        Lengths { words: self.words + more, bytes: self.bytes + more, doubles: self.doubles + more }
     }
 }
 

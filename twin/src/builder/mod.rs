@@ -7,6 +7,7 @@ mod description;
 mod generator;
 mod header_text;
 mod named;
+mod product;
 
 pub use catalogue::CATALOGUE_NAMES;
 pub use description::{state_record, Description, EntryDescription, Number, Setting, StateDescription};

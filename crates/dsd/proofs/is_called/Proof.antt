@@ -33,9 +33,11 @@ shared-slice-read-if1-2 c = omega arith
 
 returns : tie.Need-returns Inv-loop μ-loop
 returns c =
+    let entry = c .before .before .before .before .before .before .before in
+    let turn = c .before .before .before .before .loop in
     sym
-    (c .before .before .before .before .loop .inv .1
-    ∙ name-step (c .before .before .before .before .before .before .before .args .p .now) (c .before .before .before .before .before .before .before .args .name .now) (c .before .before .before .before .before .before .before .args .start) (c .before .before .before .before .before .before .before .args .start + 28) (c .before .before .before .before .before .before .before .pre .0) (c .before .before .before .before .loop .i) (omega arith) (omega arith)
+    (turn .inv .1
+    ∙ name-step (entry .args .p .now) (entry .args .name .now) (entry .args .start) (entry .args .start + 28) (entry .pre .0) (turn .i) (omega arith) (omega arith)
     ∙ rw (ne-eqb _ _ (c .if1 .taken)))
 
 add-i : tie.Need-add-i Inv-loop μ-loop
@@ -45,12 +47,14 @@ loop-less : tie.Need-loop-less Inv-loop μ-loop
 loop-less c = omega arith
 
 loop-again : tie.Need-loop-again Inv-loop μ-loop
-loop-again c = (
-  omega arith,
-  c .before .before .before .before .loop .inv .1
-      ∙ name-step (c .before .before .before .before .before .before .before .args .p .now) (c .before .before .before .before .before .before .before .args .name .now) (c .before .before .before .before .before .before .before .args .start) (c .before .before .before .before .before .before .before .args .start + 28) (c .before .before .before .before .before .before .before .pre .0) (c .before .before .before .before .loop .i) (omega arith) (omega arith)
-      ∙ rw (eq-eqb _ _ (c .if1 .left)),
-)
+loop-again c =
+    let entry = c .before .before .before .before .before .before .before in
+    let turn = c .before .before .before .before .loop in (
+      omega arith,
+      turn .inv .1
+          ∙ name-step (entry .args .p .now) (entry .args .name .now) (entry .args .start) (entry .args .start + 28) (entry .pre .0) (turn .i) (omega arith) (omega arith)
+          ∙ rw (eq-eqb _ _ (c .if1 .left)),
+    )
 
 add-first-not-blank : tie.Need-add-first-not-blank Inv-loop μ-loop
 add-first-not-blank c = omega arith
@@ -66,8 +70,9 @@ add-result c = omega arith
 
 returns-2 : tie.Need-returns-2 Inv-loop μ-loop
 returns-2 c =
+    let entry = c .before .before .before .before .before in
     rw (c .first-not-blank .ensures)
-    (name-end (c .before .before .before .before .before .args .p .now) (c .before .before .before .before .before .args .name .now) (c .before .before .before .before .before .args .start) (c .before .before .loop .i) (c .before .before .before .before .before .args .start + 28) (c .before .before .before .before .before .pre .0) (omega arith) (omega arith)
+    (name-end (entry .args .p .now) (entry .args .name .now) (entry .args .start) (c .before .before .loop .i) (entry .args .start + 28) (entry .pre .0) (omega arith) (omega arith)
     ∙ sym (c .before .before .loop .inv .1))
 
 pub is-called-spec : {M : Type 1} → statement M

@@ -37,10 +37,11 @@ magnitude-at-requires-2 c κs = omega (arith, c .before .before .before .before 
 
 returns-2 : tie.Need-returns-2
 returns-2 c =
+    let header-rules = c .before .before .before .before .header-rules in
     record {
-      verdict-is = c .before .before .before .before .header-rules .ensures;
+      verdict-is = header-rules .ensures;
       headers = λ h. headers-fit _ _ h _ (ap (λ (m : ℕ). 1247 + m) (c .before .magnitude-at .ensures) ∙ sym (headers-end-at _)) (c .magnitude-at2 .ensures ∙ sym (entries-at _));
-      nothing = λ h. absurd (h (goes-on _ _ (c .before .before .enum-told2 .given .1) (c .before .before .before .before .header-rules .ensures)));
+      nothing = λ h. absurd (h (goes-on _ _ (c .before .before .enum-told2 .given .1) (header-rules .ensures)));
     }
 
 pub check-header-spec : {M : Type 1} → statement M

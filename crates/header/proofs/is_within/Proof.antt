@@ -13,7 +13,9 @@ returns c = is-below (c .before .before .before .args .most) (c .before .whole-a
 
 returns-2 : tie.Need-returns-2
 returns-2 c =
-    is-from (c .before .before .before .args .most) (c .before .whole-at .result) _ (c .before .whole-at .ok) (c .before .whole-at .ensures) (c .before .before .before .fits .most .sfits) (c .if1 .left)
+    let entry = c .before .before .before in
+    let value = c .before .whole-at in
+    is-from (entry .args .most) (value .result) _ (value .ok) (value .ensures) (entry .fits .most .sfits) (c .if1 .left)
 
 pub is-within-spec : {M : Type 1} → statement M
 is-within-spec = tie.close (tie.spec whole-at-requires returns returns-2)

@@ -33,14 +33,16 @@ refuse-requires-2 c κs = search needs
 
 returns-2 : tie.Need-returns-2
 returns-2 c =
-    let fits : numberIn (c .before .before .before .before .before .before .before .args .p .now) 1075 21 .magnitude ≤ 9223372036854775807 = omega (arith, ap (λ (m : Number). m .magnitude) (c .before .before .before .before .before .number-at .ensures)) in
-    c .refuse2 .ensures ∙ total-other _ _ fits (λ e. word-other (c .before .before .whole .result) _ (c .before .if2 .taken) (c .before .before .whole .ensures ∙ ap wholeIn (c .before .before .before .before .before .number-at .ensures) ∙ e))
+    let number-at = c .before .before .before .before .before .number-at .ensures in
+    let fits : numberIn (c .before .before .before .before .before .before .before .args .p .now) 1075 21 .magnitude ≤ 9223372036854775807 = omega (arith, ap (λ (m : Number). m .magnitude) number-at) in
+    c .refuse2 .ensures ∙ total-other _ _ fits (λ e. word-other (c .before .before .whole .result) _ (c .before .if2 .taken) (c .before .before .whole .ensures ∙ ap wholeIn number-at ∙ e))
 
 returns-3 : tie.Need-returns-3
 unfolding verdictIs
 returns-3 c =
-    let fits : numberIn (c .before .before .before .before .before .before .args .p .now) 1075 21 .magnitude ≤ 9223372036854775807 = omega (arith, ap (λ (m : Number). m .magnitude) (c .before .before .before .before .number-at .ensures)) in
-    total-same _ _ fits (sym (c .before .whole .ensures ∙ ap wholeIn (c .before .before .before .before .number-at .ensures)) ∙ word-same (c .before .whole .result) _ (c .before .whole .ok) (omega arith) (c .if2 .left))
+    let number-at = c .before .before .before .before .number-at .ensures in
+    let fits : numberIn (c .before .before .before .before .before .before .args .p .now) 1075 21 .magnitude ≤ 9223372036854775807 = omega (arith, ap (λ (m : Number). m .magnitude) number-at) in
+    total-same _ _ fits (sym (c .before .whole .ensures ∙ ap wholeIn number-at) ∙ word-same (c .before .whole .result) _ (c .before .whole .ok) (omega arith) (c .if2 .left))
 
 pub total-rules-spec : {M : Type 1} → statement M
 total-rules-spec =

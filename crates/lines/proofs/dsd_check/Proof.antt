@@ -7,6 +7,7 @@ use Rattle.layout.specs.Bytes.{part}
 use Rattle.layout.specs.Text.{layout, lineClasses, valueClasses, valueWidth, startsOf}
 use Rattle.layout.specs.Lines.{dsd, spareDsd}
 use Rattle.lines.specs.Table.{tableLaid, rowsLaid, rowLaid, valueLaid, rowOf, tableFits, rowsFit, rowFits, widthFits, widthIn}
+use Rattle.lines.proofs.Rows.{table-place}
 use Rattle.lines.proofs.Headers.{dsd-answer, spare-lines, dsd-lines, dsd-long, dsd-inside, dsd-place}
 use Rattle.lines.proofs.dsd_check.Statement.{statement}
 use Rattle.lines.proofs.dsd_check.Tie as tie
@@ -23,7 +24,8 @@ spare-check-requires c κs = search needs
 returns : tie.Need-returns
 unfolding layout spareDsd lineClasses
 returns c =
-    dsd-answer _ (c .before .before .before .before .args .at) spareDsd _ (spare-lines (c .before .before .before .before .args .p .now) (c .before .before .before .before .args .at) (c .before .if1 .taken)) refl (c .spare-check .ensures) (c .before .before .before .before .pre)
+    let entry = c .before .before .before .before in
+    dsd-answer _ (entry .args .at) spareDsd _ (spare-lines (entry .args .p .now) (entry .args .at) (c .before .if1 .taken)) refl (c .spare-check .ensures) (entry .pre)
 
 add-end : tie.Need-add-end
 add-end c = search needs
@@ -58,12 +60,17 @@ lines-check-requires c κs = (tt, dsd-long _ _ (c .before .before .before .befor
 
 add-result : tie.Need-add-result
 unfolding tableLaid rowsLaid rowLaid valueLaid rowOf layout dsd lineClasses valueClasses part startsOf widthIn valueWidth
-add-result c = omega (arith, dsd-inside (c .before .before .before .before .before .before .before .before .before .before .args .p .now) (c .before .before .before .before .before .before .before .before .before .before .args .at) _ _ refl (c .lines-check .ensures dsd (record { begin = refl; wide = refl; laid = refl })), c .before .before .before .before .before .before .before .before .before .before .pre)
+add-result c =
+    let entry = c .before .before .before .before .before .before .before .before .before .before in
+    let found = table-place _ _ _ _ _ _ _ (c .lines-check .ensures) dsd (record { begin = refl; wide = refl; laid = refl }) in
+    omega (arith, dsd-inside (entry .args .p .now) (entry .args .at) _ _ refl found, entry .pre)
 
 returns-2 : tie.Need-returns-2
 unfolding tableLaid rowsLaid rowLaid valueLaid rowOf layout dsd lineClasses valueClasses part startsOf widthIn valueWidth
 returns-2 c =
-    dsd-answer _ (c .before .before .before .before .before .before .before .before .before .before .args .at) dsd _ (dsd-lines (c .before .before .before .before .before .before .before .before .before .before .args .p .now) (c .before .before .before .before .before .before .before .before .before .before .args .at) (c .before .before .before .before .before .before .before .if1 .left)) refl (dsd-place (c .before .before .before .before .before .before .before .before .before .before .args .p .now) (c .before .before .before .before .before .before .before .before .before .before .args .at) _ _ refl (c .lines-check .ensures dsd (record { begin = refl; wide = refl; laid = refl }))) (c .before .before .before .before .before .before .before .before .before .before .pre)
+    let entry = c .before .before .before .before .before .before .before .before .before .before in
+    let found = table-place _ _ _ _ _ _ _ (c .lines-check .ensures) dsd (record { begin = refl; wide = refl; laid = refl }) in
+    dsd-answer _ (entry .args .at) dsd _ (dsd-lines (entry .args .p .now) (entry .args .at) (c .before .before .before .before .before .before .before .if1 .left)) refl (dsd-place (entry .args .p .now) (entry .args .at) _ _ refl found) (entry .pre)
 
 pub dsd-check-spec : {M : Type 1} → statement M
 dsd-check-spec =

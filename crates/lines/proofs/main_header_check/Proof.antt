@@ -6,6 +6,7 @@ use Rattle.layout.specs.Bytes.{part}
 use Rattle.layout.specs.Text.{layout, lineClasses, valueClasses, valueWidth, startsOf}
 use Rattle.layout.specs.Lines.{sizeOfMph, mph}
 use Rattle.lines.specs.Table.{tableLaid, rowsLaid, rowLaid, valueLaid, rowOf, tableFits, rowsFit, rowFits, widthFits, widthIn}
+use Rattle.lines.proofs.Rows.{table-place}
 use Rattle.lines.proofs.Headers.{header-answer}
 use Rattle.lines.proofs.main_header_check.Statement.{statement}
 use Rattle.lines.proofs.main_header_check.Tie as tie
@@ -31,7 +32,7 @@ lines-check-requires c κs = (tt, c .before .before .before .before .before .bef
 
 returns : tie.Need-returns
 unfolding tableLaid rowsLaid rowLaid valueLaid rowOf layout mph lineClasses valueClasses part startsOf widthIn valueWidth
-returns c = header-answer 3 128 (layout mph) _ 0 _ sizeOfMph (c .lines-check .ensures mph (record { begin = refl; wide = refl; laid = refl })) refl (c .before .before .before .before .before .before .before .pre)
+returns c = header-answer 3 128 (layout mph) _ 0 _ sizeOfMph (table-place _ _ _ _ _ _ _ (c .lines-check .ensures) mph (record { begin = refl; wide = refl; laid = refl })) refl (c .before .before .before .before .before .before .before .pre)
 
 pub main-header-check-spec : {M : Type 1} → statement M
 main-header-check-spec =

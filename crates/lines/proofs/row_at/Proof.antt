@@ -37,9 +37,10 @@ wide8-requires-2 c κs = search needs
 returns : tie.Need-returns
 unfolding rowOf
 returns c =
+    let entry = c .before .before .before .before .before .before .before .before .before .before .before in
     λ j. record {
       value = c .before .before .before .before .before .wide16 .ensures .0 j + c .before .before .before .wide8 .ensures .0 j;
-      kind = getD (c .before .before .before .before .before .before .before .before .before .before .before .args .kinds .now) (c .before .before .before .before .before .before .before .before .before .before .before .args .i) 0;
+      kind = getD (entry .args .kinds .now) (entry .args .i) 0;
       width = c .wide82 .ensures .0 j;
     }
 

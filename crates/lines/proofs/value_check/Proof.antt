@@ -14,61 +14,99 @@ first-not-plain-requires : tie.Need-first-not-plain-requires
 first-not-plain-requires c κs = search needs
 
 returns : tie.Need-returns
-returns c = rw (text-laid (c .before .before .before .args .kind) (c .before .before .before .args .to - c .before .before .before .args .from) (c .before .if1 .taken)) (c .first-not-plain .ensures ∙ run-bad plain _ _ _)
+returns c =
+    let entry = c .before .before .before in
+    rw (text-laid (entry .args .kind) (entry .args .to - entry .args .from) (c .before .if1 .taken)) (c .first-not-plain .ensures ∙ run-bad plain _ _ _)
 
 first-not-blank-requires : tie.Need-first-not-blank-requires
 first-not-blank-requires c κs = search needs
 
 returns-2 : tie.Need-returns-2
-returns-2 c = rw (blanks-laid (c .before .before .before .before .args .kind) (c .before .before .before .before .args .to - c .before .before .before .before .args .from) (c .before .if2 .taken)) (c .first-not-blank .ensures ∙ blanks-bad _ _ _)
+returns-2 c =
+    let entry = c .before .before .before .before in
+    rw (blanks-laid (entry .args .kind) (entry .args .to - entry .args .from) (c .before .if2 .taken)) (c .first-not-blank .ensures ∙ blanks-bad _ _ _)
 
 shared-slice-read-is-flag : tie.Need-shared-slice-read-is-flag
-shared-slice-read-is-flag c = omega (arith, c .before .before .before .before .before .pre .1, flag-width (c .before .before .before .before .before .args .kind) (c .before .before .before .before .before .args .to - c .before .before .before .before .before .args .from) (c .before .if3 .taken) (c .before .before .before .before .before .pre .2))
+shared-slice-read-is-flag c =
+    let entry = c .before .before .before .before .before in
+    omega (arith, entry .pre .1, flag-width (entry .args .kind) (entry .args .to - entry .args .from) (c .before .if3 .taken) (entry .pre .2))
 
 is-flag-requires : tie.Need-is-flag-requires
 is-flag-requires c κs = search needs
 
 returns-3 : tie.Need-returns-3
-returns-3 c = one-good _ _ _ 0 _ _ (flag-laid (c .before .before .before .before .before .before .before .args .kind) (c .before .before .before .before .before .before .before .args .to - c .before .before .before .before .before .before .before .args .from) (c .before .before .before .if3 .taken)) (c .before .before .before .before .before .before .before .pre .0) (flag-width (c .before .before .before .before .before .before .before .args .kind) (c .before .before .before .before .before .before .before .args .to - c .before .before .before .before .before .before .before .args .from) (c .before .before .before .if3 .taken) (c .before .before .before .before .before .before .before .pre .2)) (sym (c .before .is-flag .ensures) ∙ c .if4 .taken)
+returns-3 c =
+    let entry = c .before .before .before .before .before .before .before in
+    let flag = c .before .before .before .if3 .taken in
+    one-good _ _ _ 0 _ _ (flag-laid (entry .args .kind) (entry .args .to - entry .args .from) flag) (entry .pre .0) (flag-width (entry .args .kind) (entry .args .to - entry .args .from) flag (entry .pre .2)) (sym (c .before .is-flag .ensures) ∙ c .if4 .taken)
 
 returns-4 : tie.Need-returns-4
-returns-4 c = one-bad _ _ 0 0 _ _ (flag-laid (c .before .before .before .before .before .before .before .args .kind) (c .before .before .before .before .before .before .before .args .to - c .before .before .before .before .before .before .before .args .from) (c .before .before .before .if3 .taken)) (sym (c .before .is-flag .ensures) ∙ c .if4 .left)
+returns-4 c =
+    let entry = c .before .before .before .before .before .before .before in
+    one-bad _ _ 0 0 _ _ (flag-laid (entry .args .kind) (entry .args .to - entry .args .from) (c .before .before .before .if3 .taken)) (sym (c .before .is-flag .ensures) ∙ c .if4 .left)
 
 shared-slice-read-is-type : tie.Need-shared-slice-read-is-type
-shared-slice-read-is-type c = omega (arith, c .before .before .before .before .before .before .pre .1, type-width (c .before .before .before .before .before .before .args .kind) (c .before .before .before .before .before .before .args .to - c .before .before .before .before .before .before .args .from) (c .before .if5 .taken) (c .before .before .before .before .before .before .pre .2))
+shared-slice-read-is-type c =
+    let entry = c .before .before .before .before .before .before in
+    omega (arith, entry .pre .1, type-width (entry .args .kind) (entry .args .to - entry .args .from) (c .before .if5 .taken) (entry .pre .2))
 
 is-type-requires : tie.Need-is-type-requires
 is-type-requires c κs = search needs
 
 returns-5 : tie.Need-returns-5
-returns-5 c = one-good _ _ _ 0 _ _ (type-laid (c .before .before .before .before .before .before .before .before .args .kind) (c .before .before .before .before .before .before .before .before .args .to - c .before .before .before .before .before .before .before .before .args .from) (c .before .before .before .if5 .taken)) (c .before .before .before .before .before .before .before .before .pre .0) (type-width (c .before .before .before .before .before .before .before .before .args .kind) (c .before .before .before .before .before .before .before .before .args .to - c .before .before .before .before .before .before .before .before .args .from) (c .before .before .before .if5 .taken) (c .before .before .before .before .before .before .before .before .pre .2)) (sym (c .before .is-type .ensures) ∙ c .if6 .taken)
+returns-5 c =
+    let entry = c .before .before .before .before .before .before .before .before in
+    let type = c .before .before .before .if5 .taken in
+    one-good _ _ _ 0 _ _ (type-laid (entry .args .kind) (entry .args .to - entry .args .from) type) (entry .pre .0) (type-width (entry .args .kind) (entry .args .to - entry .args .from) type (entry .pre .2)) (sym (c .before .is-type .ensures) ∙ c .if6 .taken)
 
 returns-6 : tie.Need-returns-6
-returns-6 c = one-bad _ _ 0 0 _ _ (type-laid (c .before .before .before .before .before .before .before .before .args .kind) (c .before .before .before .before .before .before .before .before .args .to - c .before .before .before .before .before .before .before .before .args .from) (c .before .before .before .if5 .taken)) (sym (c .before .is-type .ensures) ∙ c .if6 .left)
+returns-6 c =
+    let entry = c .before .before .before .before .before .before .before .before in
+    one-bad _ _ 0 0 _ _ (type-laid (entry .args .kind) (entry .args .to - entry .args .from) (c .before .before .before .if5 .taken)) (sym (c .before .is-type .ensures) ∙ c .if6 .left)
 
 whole-check-requires : tie.Need-whole-check-requires
-whole-check-requires c κs = (omega (arith, whole-width (c .before .before .before .before .before .before .args .kind) (c .before .before .before .before .before .before .args .to - c .before .before .before .before .before .before .args .from) (c .if7 .taken) (c .before .before .before .before .before .before .pre .2)), c .before .before .before .before .before .before .pre .1)
+whole-check-requires c κs =
+    let entry = c .before .before .before .before .before .before in
+    (omega (arith, whole-width (entry .args .kind) (entry .args .to - entry .args .from) (c .if7 .taken) (entry .pre .2)), entry .pre .1)
 
 returns-7 : tie.Need-returns-7
-returns-7 c = whole-by-end _ _ _ _ _ (whole-laid (c .before .before .before .before .before .before .before .args .kind) (c .before .before .before .before .before .before .before .args .to - c .before .before .before .before .before .before .before .args .from) (c .before .if7 .taken)) (c .whole-check .ensures)
+returns-7 c =
+    let entry = c .before .before .before .before .before .before .before in
+    whole-by-end _ _ _ _ _ (whole-laid (entry .args .kind) (entry .args .to - entry .args .from) (c .before .if7 .taken)) (c .whole-check .ensures)
 
 sub-decimal-check : tie.Need-sub-decimal-check
-sub-decimal-check c = omega (arith, thousandths-width (c .before .before .before .before .before .before .before .args .kind) (c .before .before .before .before .before .before .before .args .to - c .before .before .before .before .before .before .before .args .from) (c .if8 .taken) (c .before .before .before .before .before .before .before .pre .2))
+sub-decimal-check c =
+    let entry = c .before .before .before .before .before .before .before in
+    omega (arith, thousandths-width (entry .args .kind) (entry .args .to - entry .args .from) (c .if8 .taken) (entry .pre .2))
 
 decimal-check-requires : tie.Need-decimal-check-requires
-decimal-check-requires c κs = let w = thousandths-width (c .before .before .before .before .before .before .before .args .kind) (c .before .before .before .before .before .before .before .args .to - c .before .before .before .before .before .before .before .args .from) (c .if8 .taken) (c .before .before .before .before .before .before .before .pre .2) in (omega arith, omega arith, c .before .before .before .before .before .before .before .pre .1)
+decimal-check-requires c κs =
+    let entry = c .before .before .before .before .before .before .before in
+    let w = thousandths-width (entry .args .kind) (entry .args .to - entry .args .from) (c .if8 .taken) (entry .pre .2) in (omega arith, omega arith, entry .pre .1)
 
 returns-8 : tie.Need-returns-8
-returns-8 c = decimal-by-end _ _ _ _ _ 3 (thousandths-laid (c .before .before .before .before .before .before .before .before .args .kind) (c .before .before .before .before .before .before .before .before .args .to - c .before .before .before .before .before .before .before .before .args .from) (c .before .if8 .taken)) (omega (arith, thousandths-width (c .before .before .before .before .before .before .before .before .args .kind) (c .before .before .before .before .before .before .before .before .args .to - c .before .before .before .before .before .before .before .before .args .from) (c .before .if8 .taken) (c .before .before .before .before .before .before .before .before .pre .2))) (c .decimal-check .ensures)
+returns-8 c =
+    let entry = c .before .before .before .before .before .before .before .before in
+    decimal-by-end _ _ _ _ _ 3 (thousandths-laid (entry .args .kind) (entry .args .to - entry .args .from) (c .before .if8 .taken)) (omega (arith, thousandths-width (entry .args .kind) (entry .args .to - entry .args .from) (c .before .if8 .taken) (entry .pre .2))) (c .decimal-check .ensures)
 
 sub-decimal-check-2 : tie.Need-sub-decimal-check-2
-sub-decimal-check-2 c = omega (arith, millionths-width (c .before .before .before .before .before .before .before .args .kind) (c .before .before .before .before .before .before .before .args .to - c .before .before .before .before .before .before .before .args .from) (c .before .before .before .before .before .if1 .left) (c .before .before .before .before .if2 .left) (c .before .before .before .if3 .left) (c .before .before .if5 .left) (c .before .if7 .left) (c .if8 .left) (c .before .before .before .before .before .before .before .pre .2))
+sub-decimal-check-2 c =
+    let entry = c .before .before .before .before .before .before .before in
+    omega (arith, millionths-width (entry .args .kind) (entry .args .to - entry .args .from) (c .before .before .before .before .before .if1 .left) (c .before .before .before .before .if2 .left) (c .before .before .before .if3 .left) (c .before .before .if5 .left) (c .before .if7 .left) (c .if8 .left) (entry .pre .2))
 
 decimal-check-requires-2 : tie.Need-decimal-check-requires-2
-decimal-check-requires-2 c κs = let w = millionths-width (c .before .before .before .before .before .before .before .args .kind) (c .before .before .before .before .before .before .before .args .to - c .before .before .before .before .before .before .before .args .from) (c .before .before .before .before .before .if1 .left) (c .before .before .before .before .if2 .left) (c .before .before .before .if3 .left) (c .before .before .if5 .left) (c .before .if7 .left) (c .if8 .left) (c .before .before .before .before .before .before .before .pre .2) in (omega arith, omega arith, c .before .before .before .before .before .before .before .pre .1)
+decimal-check-requires-2 c κs =
+    let entry = c .before .before .before .before .before .before .before in
+    let w = millionths-width (entry .args .kind) (entry .args .to - entry .args .from) (c .before .before .before .before .before .if1 .left) (c .before .before .before .before .if2 .left) (c .before .before .before .if3 .left) (c .before .before .if5 .left) (c .before .if7 .left) (c .if8 .left) (entry .pre .2) in (omega arith, omega arith, entry .pre .1)
 
 returns-9 : tie.Need-returns-9
-returns-9 c = decimal-by-end _ _ _ _ _ 6 (millionths-laid (c .before .before .before .before .before .before .before .before .args .kind) (c .before .before .before .before .before .before .before .before .args .to - c .before .before .before .before .before .before .before .before .args .from) (c .before .before .before .before .before .before .if1 .left) (c .before .before .before .before .before .if2 .left) (c .before .before .before .before .if3 .left) (c .before .before .before .if5 .left) (c .before .before .if7 .left) (c .before .if8 .left)) (omega (arith, millionths-width (c .before .before .before .before .before .before .before .before .args .kind) (c .before .before .before .before .before .before .before .before .args .to - c .before .before .before .before .before .before .before .before .args .from) (c .before .before .before .before .before .before .if1 .left) (c .before .before .before .before .before .if2 .left) (c .before .before .before .before .if3 .left) (c .before .before .before .if5 .left) (c .before .before .if7 .left) (c .before .if8 .left) (c .before .before .before .before .before .before .before .before .pre .2))) (c .decimal-check2 .ensures)
+returns-9 c =
+    let entry = c .before .before .before .before .before .before .before .before in
+    let not-text = c .before .before .before .before .before .before .if1 .left in
+    let not-spare = c .before .before .before .before .before .if2 .left in
+    let not-flag = c .before .before .before .before .if3 .left in
+    let not-type = c .before .before .before .if5 .left in
+    decimal-by-end _ _ _ _ _ 6 (millionths-laid (entry .args .kind) (entry .args .to - entry .args .from) not-text not-spare not-flag not-type (c .before .before .if7 .left) (c .before .if8 .left)) (omega (arith, millionths-width (entry .args .kind) (entry .args .to - entry .args .from) not-text not-spare not-flag not-type (c .before .before .if7 .left) (c .before .if8 .left) (entry .pre .2))) (c .decimal-check2 .ensures)
 
 pub value-check-spec : {M : Type 1} → statement M
 value-check-spec =

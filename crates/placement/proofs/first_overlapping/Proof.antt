@@ -47,9 +47,10 @@ is-clear-requires c κs = search needs
 
 loop-holds : tie.Need-loop-holds Inv-loop μ-loop Inv-pairs μ-pairs
 loop-holds c =
+    let pairs = c .before .before .before .before .before .pairs in
     ⊎-elim
-    (λ w. rw (w .1) (omega arith, none-shares _ _ _ _ _ (c .before .before .before .before .before .pairs .inv .2) (c .before .is-clear .ensures (w .0 .taken))))
-    (λ w. rw (w .1) (omega arith, rw (sub-zero (c .before .before .before .before .before .pairs .i))))
+    (λ w. rw (w .1) (omega arith, none-shares _ _ _ _ _ (pairs .inv .2) (c .before .is-clear .ensures (w .0 .taken))))
+    (λ w. rw (w .1) (omega arith, rw (sub-zero (pairs .i))))
     (c .if2 .came)
 
 mul-share : tie.Need-mul-share Inv-loop μ-loop Inv-pairs μ-pairs
@@ -105,11 +106,12 @@ pairs-less : tie.Need-pairs-less Inv-loop μ-loop Inv-pairs μ-pairs
 pairs-less c = omega arith
 
 pairs-again : tie.Need-pairs-again Inv-loop μ-loop Inv-pairs μ-pairs
-pairs-again c = (
-  omega arith,
-  first-miss _ _ _ _ (c .before .before .before .before .before .before .before .before .before .pairs .inv .1) (omega arith) (overlaps-none _ _ _ (some-none _ _ _ (c .before .before .before .loop .inv .1) (omega arith))),
-  one-more _ _ _ _ _ (c .before .before .before .before .before .before .before .before .before .pairs .inv .2) _ _ (c .before .low-with .ensures) (c .high-with .ensures),
-)
+pairs-again c =
+    let pairs = c .before .before .before .before .before .before .before .before .before .pairs .inv in (
+      omega arith,
+      first-miss _ _ _ _ (pairs .1) (omega arith) (overlaps-none _ _ _ (some-none _ _ _ (c .before .before .before .loop .inv .1) (omega arith))),
+      one-more _ _ _ _ _ (pairs .2) _ _ (c .before .low-with .ensures) (c .high-with .ensures),
+    )
 
 returns : tie.Need-returns Inv-loop μ-loop Inv-pairs μ-pairs
 returns c = overlapping _ _ _ _ (omega arith) (first-none _ _ _ _ (c .before .pairs .inv .1) _ _ _ (omega arith))

@@ -7,28 +7,28 @@ use Rattle.sph.proofs.first_bad_line.Statement.{statement}
 use Rattle.sph.proofs.first_bad_line.Tie as tie
 
 abbrev Inv-loop : tie.InvT-loop
-Inv-loop p to start₀ start = Reached p to start
+Inv-loop p from to start₀ start = Reached p from to start
 
 abbrev μ-loop : tie.MeasureT-loop
-μ-loop p to start₀ start = to - start
+μ-loop p from to start₀ start = to - start
 
 loop-holds : tie.Need-loop-holds Inv-loop μ-loop
-loop-holds c = reached-first _ _ (omega arith)
+loop-holds c = reached-first _ _ _ (omega arith)
 
 line-end-requires : tie.Need-line-end-requires Inv-loop μ-loop
 line-end-requires c κs = (omega arith, omega arith)
 
 returns : tie.Need-returns Inv-loop μ-loop
-returns c = reached-bad _ _ _ (c .before .before .before .loop .inv) (omega arith) (line-bad _ _ _ _ (omega arith) (c .before .line-end .ensures) (c .if1 .taken))
+returns c = reached-bad _ _ _ _ (c .before .before .before .loop .inv) (omega arith) (line-bad _ _ _ _ (omega arith) (c .before .line-end .ensures) (c .if1 .taken))
 
 loop-less : tie.Need-loop-less Inv-loop μ-loop
 loop-less c = omega (arith, line-good _ _ _ _ (omega arith) (c .before .line-end .ensures) (c .if1 .left) .on)
 
 loop-again : tie.Need-loop-again Inv-loop μ-loop
-loop-again c = reached-next _ _ _ (c .before .before .before .loop .inv) _ (line-good _ _ _ _ (omega arith) (c .before .line-end .ensures) (c .if1 .left))
+loop-again c = reached-next _ _ _ _ (c .before .before .before .loop .inv) _ (line-good _ _ _ _ (omega arith) (c .before .line-end .ensures) (c .if1 .left))
 
 returns-2 : tie.Need-returns-2 Inv-loop μ-loop
-returns-2 c = reached-end _ _ _ (c .before .loop .inv) (omega arith)
+returns-2 c = reached-end _ _ _ _ (c .before .loop .inv) (omega arith)
 
 pub first-bad-line-spec : {M : Type 1} → statement M
 first-bad-line-spec =

@@ -43,13 +43,14 @@ loop-less : tie.Need-loop-less Inv-loop μ-loop
 loop-less c = omega arith
 
 loop-again : tie.Need-loop-again Inv-loop μ-loop
-loop-again c = (
-  omega arith,
-  omega arith,
-  ten-next _ _ _ _ (omega arith) (c .before .before .before .loop .inv .2) (c .value-of .ensures .1),
-  c .before .before .before .loop .inv .3
-      ∙ digit-after _ _ _ _ _ (omega arith) (omega arith) (c .before .before .before .before .before .pre .1 _ (omega arith) (omega arith)) (c .value-of .ensures .0),
-)
+loop-again c =
+    let turn = c .before .before .before .loop in (
+      omega arith,
+      omega arith,
+      ten-next _ _ _ _ (omega arith) (turn .inv .2) (c .value-of .ensures .1),
+      turn .inv .3
+          ∙ digit-after _ _ _ _ _ (omega arith) (omega arith) (c .before .before .before .before .before .pre .1 _ (omega arith) (omega arith)) (c .value-of .ensures .0),
+    )
 
 returns : tie.Need-returns Inv-loop μ-loop
 returns c = ten-end _ _ _ _ (omega arith) (omega arith) (c .before .loop .inv .2) (c .before .loop .inv .3)

@@ -22,10 +22,14 @@ add-next : tie.Need-add-next
 add-next c = search needs
 
 returns-3 : tie.Need-returns-3
-returns-3 c = omega (arith, byte-digit (c .before .before .before .before .args .magnitude) (c .before .before .before .before .args .x) (c .before .before .before .if1 .left))
+returns-3 c =
+    let entry = c .before .before .before .before in
+    omega (arith, byte-digit (entry .args .magnitude) (entry .args .x) (c .before .before .before .if1 .left))
 
 returns-4 : tie.Need-returns-4
-returns-4 c = omega (arith, byte-digit (c .before .before .before .before .args .magnitude) (c .before .before .before .before .args .x) (c .before .before .before .if1 .left))
+returns-4 c =
+    let entry = c .before .before .before .before in
+    omega (arith, byte-digit (entry .args .magnitude) (entry .args .x) (c .before .before .before .if1 .left))
 
 pub with-byte-spec : {M : Type 1} → statement M
 with-byte-spec =

@@ -43,7 +43,8 @@ role-of-name-requires c κs = search needs
 
 returns : tie.Need-returns
 returns c =
-    read-entry (c .before .before .before .before .before .before .before .args .p .now) (λ k. c .before .before .before .before .before .before .shared-slice-known .given k .fits) (c .before .before .before .before .before .before .before .args .start) (c .before .before .before .before .before .before .before .pre) (c .before .before .before .before .number-at .ensures) (c .before .before .before .number-at2 .ensures)
+    let entry = c .before .before .before .before .before .before .before in
+    read-entry (entry .args .p .now) (λ k. c .before .before .before .before .before .before .shared-slice-known .given k .fits) (entry .args .start) (entry .pre) (c .before .before .before .before .number-at .ensures) (c .before .before .before .number-at2 .ensures)
     (c .before .before .number-at3 .ensures) (c .before .number-at4 .ensures) (c .role-of-name .ensures)
 
 pub at-spec : {M : Type 1} → statement M

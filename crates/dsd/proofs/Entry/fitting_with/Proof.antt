@@ -16,10 +16,14 @@ add-result : tie.Need-add-result
 add-result c = search needs
 
 returns-2 : tie.Need-returns-2
-returns-2 c = rw (le-ltb (c .before .before .before .args .fitting) (c .before .before .before .args .i) (c .before .before .if1 .left), sym (c .before .numbers-fit .ensures) ∙ c .if2 .taken)
+returns-2 c =
+    let entry = c .before .before .before in
+    rw (le-ltb (entry .args .fitting) (entry .args .i) (c .before .before .if1 .left), sym (c .before .numbers-fit .ensures) ∙ c .if2 .taken)
 
 returns-3 : tie.Need-returns-3
-returns-3 c = rw (le-ltb (c .before .before .before .args .fitting) (c .before .before .before .args .i) (c .before .before .if1 .left), sym (c .before .numbers-fit .ensures) ∙ c .if2 .left)
+returns-3 c =
+    let entry = c .before .before .before in
+    rw (le-ltb (entry .args .fitting) (entry .args .i) (c .before .before .if1 .left), sym (c .before .numbers-fit .ensures) ∙ c .if2 .left)
 
 pub fitting-with-spec : {M : Type 1} → statement M
 fitting-with-spec =

@@ -19,7 +19,9 @@ returns-2 c = rw (eq-eqb (c .before .before .before .before .args .self .«ds_ty
 
 returns-3 : tie.Need-returns-3
 unfolding isData viewOf
-returns-3 c = rw (ne-eqb (c .before .before .before .before .before .args .self .«ds_type») 77 (c .before .before .before .if1 .left), ne-eqb (c .before .before .before .before .before .args .self .«ds_type») 65 (c .before .if2 .left)) (sym (or-false (eqb (c .before .before .before .before .before .args .self .«ds_type») 71)))
+returns-3 c =
+    let self = c .before .before .before .before .before .args .self in
+    rw (ne-eqb (self .«ds_type») 77 (c .before .before .before .if1 .left), ne-eqb (self .«ds_type») 65 (c .before .if2 .left)) (sym (or-false (eqb (self .«ds_type») 71)))
 
 pub is-data-spec : {M : Type 1} → statement M
 is-data-spec = tie.close (tie.spec returns returns-2 returns-3)

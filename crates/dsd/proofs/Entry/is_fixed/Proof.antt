@@ -23,7 +23,9 @@ rem-if3 c = search needs
 
 returns-3 : tie.Need-returns-3
 unfolding isFixed viewOf numberFrom
-returns-3 c = rw (no-quotient (c .before .before .before .before .args .self .count .magnitude) (c .before .before .before .before .args .self .«record_size» .magnitude) (c .before .before .before .before .args .self .size .magnitude) (c .before .before .if2 .left) (c .if3 .taken), and-false)
+returns-3 c =
+    let self = c .before .before .before .before .args .self in
+    rw (no-quotient (self .count .magnitude) (self .«record_size» .magnitude) (self .size .magnitude) (c .before .before .if2 .left) (c .if3 .taken), and-false)
 
 div-result : tie.Need-div-result
 div-result c = search needs
@@ -31,8 +33,9 @@ div-result c = search needs
 returns-4 : tie.Need-returns-4
 unfolding isFixed viewOf numberFrom
 returns-4 c =
-    rw (from-one (numberFrom (c .before .before .before .before .before .before .args .self .«record_size»)), c .before .before .before .before .before .if1 .left, le-leb 1 (c .before .before .before .before .before .before .args .self .«record_size» .magnitude) (omega arith))
-    (by-quotient (c .before .before .before .before .before .before .args .self .count .magnitude) (c .before .before .before .before .before .before .args .self .«record_size» .magnitude) (c .before .before .before .before .before .before .args .self .size .magnitude) (c .before .before .before .before .if2 .left) (c .before .before .if3 .left))
+    let self = c .before .before .before .before .before .before .args .self in
+    rw (from-one (numberFrom (self .«record_size»)), c .before .before .before .before .before .if1 .left, le-leb 1 (self .«record_size» .magnitude) (omega arith))
+    (by-quotient (self .count .magnitude) (self .«record_size» .magnitude) (self .size .magnitude) (c .before .before .before .before .if2 .left) (c .before .before .if3 .left))
 
 pub is-fixed-spec : {M : Type 1} → statement M
 is-fixed-spec = tie.close (tie.spec returns returns-2 rem-if3 returns-3 div-result returns-4)

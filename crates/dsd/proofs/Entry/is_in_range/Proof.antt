@@ -33,23 +33,31 @@ returns-3 c = rw (negative (numberFrom (c .before .before .before .before .befor
 returns-4 : tie.Need-returns-4
 unfolding inRange viewOf numberFrom
 returns-4 c =
+    let self = c .before .before .before .before .before .before .before .before .args .self in
+    let is-negative = c .before .before .before .before .before .before .before .is-negative in
+    let is-negative2 = c .before .before .before .before .before .is-negative2 in
+    let is-negative3 = c .before .before .before .is-negative3 in
     rw (
-      positive (numberFrom (c .before .before .before .before .before .before .before .before .args .self .offset)) (c .before .before .before .before .before .before .before .is-negative .result) (c .before .before .before .before .before .before .before .is-negative .ensures) (c .before .before .before .before .before .before .if1 .left),
-      positive (numberFrom (c .before .before .before .before .before .before .before .before .args .self .size)) (c .before .before .before .before .before .is-negative2 .result) (c .before .before .before .before .before .is-negative2 .ensures) (c .before .before .before .before .if2 .left),
-      positive (numberFrom (c .before .before .before .before .before .before .before .before .args .self .count)) (c .before .before .before .is-negative3 .result) (c .before .before .before .is-negative3 .ensures) (c .before .before .if3 .left),
-      from-minus-one (numberFrom (c .before .before .before .before .before .before .before .before .args .self .«record_size»)),
-      not-true (c .before .before .before .before .before .before .before .before .args .self .«record_size» .minus) (c .if4 .taken),
+      positive (numberFrom (self .offset)) (is-negative .result) (is-negative .ensures) (c .before .before .before .before .before .before .if1 .left),
+      positive (numberFrom (self .size)) (is-negative2 .result) (is-negative2 .ensures) (c .before .before .before .before .if2 .left),
+      positive (numberFrom (self .count)) (is-negative3 .result) (is-negative3 .ensures) (c .before .before .if3 .left),
+      from-minus-one (numberFrom (self .«record_size»)),
+      not-true (self .«record_size» .minus) (c .if4 .taken),
     )
 
 returns-5 : tie.Need-returns-5
 unfolding inRange viewOf numberFrom
 returns-5 c =
+    let self = c .before .before .before .before .before .before .before .before .before .args .self in
+    let is-negative = c .before .before .before .before .before .before .before .before .is-negative in
+    let is-negative2 = c .before .before .before .before .before .before .is-negative2 in
+    let is-negative3 = c .before .before .before .before .is-negative3 in
     rw (
-      positive (numberFrom (c .before .before .before .before .before .before .before .before .before .args .self .offset)) (c .before .before .before .before .before .before .before .before .is-negative .result) (c .before .before .before .before .before .before .before .before .is-negative .ensures) (c .before .before .before .before .before .before .before .if1 .left),
-      positive (numberFrom (c .before .before .before .before .before .before .before .before .before .args .self .size)) (c .before .before .before .before .before .before .is-negative2 .result) (c .before .before .before .before .before .before .is-negative2 .ensures) (c .before .before .before .before .before .if2 .left),
-      positive (numberFrom (c .before .before .before .before .before .before .before .before .before .args .self .count)) (c .before .before .before .before .is-negative3 .result) (c .before .before .before .before .is-negative3 .ensures) (c .before .before .before .if3 .left),
-      from-minus-one (numberFrom (c .before .before .before .before .before .before .before .before .before .args .self .«record_size»)),
-      not-false (c .before .before .before .before .before .before .before .before .before .args .self .«record_size» .minus) (c .before .if4 .left),
+      positive (numberFrom (self .offset)) (is-negative .result) (is-negative .ensures) (c .before .before .before .before .before .before .before .if1 .left),
+      positive (numberFrom (self .size)) (is-negative2 .result) (is-negative2 .ensures) (c .before .before .before .before .before .if2 .left),
+      positive (numberFrom (self .count)) (is-negative3 .result) (is-negative3 .ensures) (c .before .before .before .if3 .left),
+      from-minus-one (numberFrom (self .«record_size»)),
+      not-false (self .«record_size» .minus) (c .before .if4 .left),
     )
 
 pub is-in-range-spec : {M : Type 1} → statement M

@@ -16,15 +16,21 @@ returns c = rw (above (numberFrom (c .before .args .self .size)), c .if1 .taken)
 
 returns-2 : tie.Need-returns-2
 unfolding isVariable viewOf numberFrom
-returns-2 c = rw (above (numberFrom (c .before .before .before .args .self .size)), le-ltb 0 (c .before .before .before .args .self .size .magnitude) (omega arith), and-false)
+returns-2 c =
+    let self = c .before .before .before .args .self in
+    rw (above (numberFrom (self .size)), le-ltb 0 (self .size .magnitude) (omega arith), and-false)
 
 returns-3 : tie.Need-returns-3
 unfolding isVariable viewOf numberFrom
-returns-3 c = rw (is-minus-one (numberFrom (c .before .before .before .before .before .args .self .«record_size»)), not-true (c .before .before .before .before .before .args .self .«record_size» .minus) (c .if3 .taken), and-false)
+returns-3 c =
+    let self = c .before .before .before .before .before .args .self in
+    rw (is-minus-one (numberFrom (self .«record_size»)), not-true (self .«record_size» .minus) (c .if3 .taken), and-false)
 
 returns-4 : tie.Need-returns-4
 unfolding isVariable viewOf numberFrom
-returns-4 c = rw (is-minus-one (numberFrom (c .before .before .before .before .before .before .before .args .self .«record_size»)), ne-eqb (c .before .before .before .before .before .before .before .args .self .«record_size» .magnitude) 1 (c .if4 .taken), and-false, and-false)
+returns-4 c =
+    let self = c .before .before .before .before .before .before .before .args .self in
+    rw (is-minus-one (numberFrom (self .«record_size»)), ne-eqb (self .«record_size» .magnitude) 1 (c .if4 .taken), and-false, and-false)
 
 returns-5 : tie.Need-returns-5
 unfolding isVariable viewOf numberFrom
@@ -32,13 +38,16 @@ returns-5 c = rw (ne-eqb (c .before .before .before .before .before .before .bef
 
 returns-6 : tie.Need-returns-6
 unfolding isVariable
-returns-6 c = rw (view-named (c .before .before .before .before .before .before .before .before .before .before .before .args .self), le-ltb 0 (c .before .before .before .before .before .before .before .before .before .before .before .args .self .«name_role») (omega arith), and-false, and-false, and-false)
+returns-6 c =
+    let self = c .before .before .before .before .before .before .before .before .before .before .before .args .self in
+    rw (view-named self, le-ltb 0 (self .«name_role») (omega arith), and-false, and-false, and-false)
 
 returns-7 : tie.Need-returns-7
 unfolding isVariable
 returns-7 c =
-    rw (view-named (c .before .before .before .before .before .before .before .before .before .before .before .before .args .self), lt-ltb 0 (c .before .before .before .before .before .before .before .before .before .before .before .before .args .self .«name_role») (omega arith))
-    (all-pass (c .before .before .before .before .before .before .before .before .before .before .before .before .args .self) (c .before .before .before .before .before .before .before .before .before .before .before .if1 .left) (c .before .before .before .before .before .before .before .before .before .if2 .left) (not-false (c .before .before .before .before .before .before .before .before .before .before .before .before .args .self .«record_size» .minus) (c .before .before .before .before .before .before .before .if3 .left)) (c .before .before .before .before .before .if4 .left) (c .before .before .before .if5 .left))
+    let self = c .before .before .before .before .before .before .before .before .before .before .before .before .args .self in
+    rw (view-named self, lt-ltb 0 (self .«name_role») (omega arith))
+    (all-pass self (c .before .before .before .before .before .before .before .before .before .before .before .if1 .left) (c .before .before .before .before .before .before .before .before .before .if2 .left) (not-false (self .«record_size» .minus) (c .before .before .before .before .before .before .before .if3 .left)) (c .before .before .before .before .before .if4 .left) (c .before .before .before .if5 .left))
 
 pub is-variable-spec : {M : Type 1} → statement M
 is-variable-spec =

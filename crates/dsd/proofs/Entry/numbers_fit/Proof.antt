@@ -28,7 +28,8 @@ is-in-range-requires c κs = search needs
 returns-3 : tie.Need-returns-3
 unfolding viewOf
 returns-3 c =
-    fits-out (viewOf (c .before .before .before .before .before .before .args .self)) (c .before .before .before .before .if1 .left) (sym (c .before .before .before .is-data .ensures) ∙ not-false (c .before .before .before .is-data .result) (c .before .before .if2 .left))
+    let is-data = c .before .before .before .is-data in
+    fits-out (viewOf (c .before .before .before .before .before .before .args .self)) (c .before .before .before .before .if1 .left) (sym (is-data .ensures) ∙ not-false (is-data .result) (c .before .before .if2 .left))
     (sym (c .before .is-in-range .ensures) ∙ not-true (c .before .is-in-range .result) (c .if3 .taken))
 
 set-fits-requires : tie.Need-set-fits-requires
@@ -37,8 +38,9 @@ set-fits-requires c κs = sym (c .before .is-in-range .ensures) ∙ not-false (c
 returns-4 : tie.Need-returns-4
 unfolding viewOf
 returns-4 c =
+    let is-data = c .before .before .before .before .is-data in
     c .set-fits .ensures
-    ∙ fits-set (viewOf (c .before .before .before .before .before .before .before .args .self)) (c .before .before .before .before .before .if1 .left) (sym (c .before .before .before .before .is-data .ensures) ∙ not-false (c .before .before .before .before .is-data .result) (c .before .before .before .if2 .left))
+    ∙ fits-set (viewOf (c .before .before .before .before .before .before .before .args .self)) (c .before .before .before .before .before .if1 .left) (sym (is-data .ensures) ∙ not-false (is-data .result) (c .before .before .before .if2 .left))
     (sym (c .before .before .is-in-range .ensures) ∙ not-false (c .before .before .is-in-range .result) (c .before .if3 .left))
 
 pub numbers-fit-spec : {M : Type 1} → statement M

@@ -1,10 +1,10 @@
--- `points::check_end` meets its contract. Assumes nothing.
+-- `fields::check_end` meets its contract. Assumes nothing.
 use mathlib.Core.Path.{sym, _∙_}
 use Rattle.layout.specs.Fields.{endsIn}
 use Rattle.layout.specs.Answers.{verdictIs}
 use borrow.Author.Needs.{needs}
-use Rattle.points.proofs.check_end.Statement.{statement}
-use Rattle.points.proofs.check_end.Tie as tie
+use Rattle.fields.proofs.check_end.Statement.{statement}
+use Rattle.fields.proofs.check_end.Tie as tie
 
 ends-in-requires : tie.Need-ends-in-requires
 ends-in-requires c κs = search needs

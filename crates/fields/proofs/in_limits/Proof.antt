@@ -1,13 +1,13 @@
--- `points::in_limits` meets its contract. Assumes nothing.
+-- `fields::in_limits` meets its contract. Assumes nothing.
 use mathlib.Core.Path.{sym, ap₂, _∙_}
 use native.Mathlib.Omega.{arith}
 use borrow.Author.Needs.{needs}
 use lib.Signed.{leZ, ltZ}
 use mir.Syntax.{w64}
 use mir.Facts.{toZ-ofZ, toZ-pos}
-use Rattle.points.proofs.Limits.{too-low, high-enough, minus, minus-fits}
-use Rattle.points.proofs.in_limits.Statement.{statement}
-use Rattle.points.proofs.in_limits.Tie as tie
+use Rattle.fields.proofs.Limits.{too-low, high-enough, minus, minus-fits}
+use Rattle.fields.proofs.in_limits.Statement.{statement}
+use Rattle.fields.proofs.in_limits.Tie as tie
 
 cast-limit : tie.Need-cast-limit
 cast-limit c = search needs

@@ -1,15 +1,15 @@
--- `points::check_limit` meets its contract. Assumes nothing.
+-- `fields::check_limit` meets its contract. Assumes nothing.
 use mathlib.Core.Path.{_≡_, sym, ap, _∙_}
 use Rattle.layout.specs.Answers.{verdictIs}
 use borrow.Author.Needs.{needs, sfits-of}
 use mir.Facts.{toZ-ofZ}
 use Rattle.layout.specs.Bytes.{signedAt}
 use Rattle.layout.specs.Fields.{inLimits}
-use Rattle.points.proofs.check_limit.Statement.{statement}
-use Rattle.points.proofs.check_limit.Tie as tie
+use Rattle.fields.proofs.check_limit.Statement.{statement}
+use Rattle.fields.proofs.check_limit.Tie as tie
 
 -- the code's test is that of the number read
-tested-here : (c : tie.After-in-limits) → inLimits (c .before .before .before .args .most) (signedAt (c .before .before .before .args .bytes .now) (c .before .before .before .args .offset) 4) ≡ c .in-limits .result
+tested-here : (c : tie.After-in-limits) → (let entry = c .before .before .before in inLimits (entry .args .most) (signedAt (entry .args .bytes .now) (entry .args .offset) 4)) ≡ c .in-limits .result
 tested-here c = sym (c .in-limits .ensures ∙ ap (inLimits (c .before .before .before .args .most)) (toZ-ofZ (sfits-of (c .before .signed .ok)) ∙ c .before .signed .ensures .0))
 
 signed-requires : tie.Need-signed-requires

@@ -1,10 +1,10 @@
--- `points::point_in` meets its contract: the first refusal of the five checks in their order, or the point. Assumes nothing.
+-- `fields::point_in` meets its contract: the first refusal of the five checks in their order, or the point. Assumes nothing.
 use mathlib.Core.Path.{_∙_}
 use Rattle.layout.specs.Answers.{pointAnswerIs}
-use Rattle.points.proofs.Points.{accepts, refuses, all-there, past-latitude, past-longitude, past-altitude, latitude-out, longitude-out, found}
+use Rattle.fields.proofs.Points.{accepts, refuses, all-there, past-latitude, past-longitude, past-altitude, latitude-out, longitude-out, found}
 use borrow.Author.Needs.{needs}
-use Rattle.points.proofs.point_in.Statement.{statement}
-use Rattle.points.proofs.point_in.Tie as tie
+use Rattle.fields.proofs.point_in.Statement.{statement}
+use Rattle.fields.proofs.point_in.Tie as tie
 
 check-end-requires : tie.Need-check-end-requires
 check-end-requires c κs = search needs

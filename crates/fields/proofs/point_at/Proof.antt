@@ -1,12 +1,12 @@
--- `points::point_at` meets its contract: the three numbers read, each divided once. Assumes nothing.
+-- `fields::point_at` meets its contract: the three numbers read, each divided once. Assumes nothing.
 use mathlib.Core.Path.{ap, _∙_}
 use mir.Facts.{toZ-ofZ}
 use Rattle.layout.specs.Answer.{is}
 use Rattle.layout.specs.Fields.{degrees, metres, positionAt}
 use Rattle.layout.specs.Answers.{pointAnswerIs}
 use borrow.Author.Needs.{needs, sfits-of}
-use Rattle.points.proofs.point_at.Statement.{statement}
-use Rattle.points.proofs.point_at.Tie as tie
+use Rattle.fields.proofs.point_at.Statement.{statement}
+use Rattle.fields.proofs.point_at.Tie as tie
 
 signed-requires : tie.Need-signed-requires
 signed-requires c κs = search needs
