@@ -37,8 +37,9 @@ use Rattle.dsd.specs.Held.{numberFrom, heldOf, viewOf, overPlace, Read}
 use Rattle.dsd.specs.declared.Entry.{Entry as HeldEntry}
 use Rattle.dsd.proofs.Views.{turn-held, over-held}
 use Rattle.directory.specs.Numbers.{setsOf, heldSets}
-use Rattle.directory.specs.Checks.{Headers, Dsds, overAt, unfitAt, Counted, textRules, numberRules, placeRules, Placed, closed, Checked}
-use Rattle.directory.specs.declared.DirectoryCheck.{DirectoryCheck}
+use Rattle.directory.specs.Checks.{Headers, Dsds, overAt, unfitAt, Counted, textRules, numberRules, placeRules, Placed}
+use Rattle.directory.specs.Opening.{closed, Opened}
+use Rattle.directory.specs.declared.Opening.{Opening}
 use Rattle.directory.proofs.Turns.{place, nine}
 use Rattle.directory.proofs.Held.{not-over, held-same}
 use Rattle.sph.specs.LineEnds.{firstBadLine}
@@ -237,24 +238,25 @@ module _ (b : List ℕ) (n : ℕ) where
   rules-split = sym (simp orElse-assoc)
 
   -- a check that refuses
-  stopped : (r : Refusal) (x : DirectoryCheck) → x ≡ closed r → rules7to14 b n ≡ refused (r .number) (r .place) (r .entry) → Checked b n x
+  stopped : (r : Refusal) (x : Opening) → x ≡ closed r → rules7to14 b n ≡ refused (r .number) (r .place) (r .entry) → Opened (rules7to14 b n) b x
   unfolding verdictIs
-  stopped r x q h = rw q (record { verdict = sym h; read = λ a. absurd (accepted≢refused (sym a ∙ h)) })
+  stopped r x q h = rw q (record { judged = sym h; begin = λ a. absurd (accepted≢refused (sym a ∙ h)); held = λ a. absurd (accepted≢refused (sym a ∙ h)) })
 
-  pub text-refused : (r : Refusal) (x : DirectoryCheck) → x ≡ closed r → (v : Verdict) → v ≡ Refused r → verdictIs v ≡ textRules b n → Checked b n x
+  pub text-refused : (r : Refusal) (x : Opening) → x ≡ closed r → (v : Verdict) → v ≡ Refused r → verdictIs v ≡ textRules b n → Opened (rules7to14 b n) b x
   text-refused r x q v h t = stopped r x q (rules-split ∙ rw (told v r (textRules b n) h t))
 
   module _ (text : textRules b n ≡ accepted) where
-    pub numbers-refused : (r : Refusal) (x : DirectoryCheck) → x ≡ closed r → (v : Verdict) → v ≡ Refused r → verdictIs v ≡ numberRules b n → Checked b n x
+    pub numbers-refused : (r : Refusal) (x : Opening) → x ≡ closed r → (v : Verdict) → v ≡ Refused r → verdictIs v ≡ numberRules b n → Opened (rules7to14 b n) b x
     numbers-refused r x q v h t = stopped r x q (rules-split ∙ rw (text, told v r (numberRules b n) h t))
 
     module _ (numbers : numberRules b n ≡ accepted) where
-      pub places-refused : (r : Refusal) (x : DirectoryCheck) → x ≡ closed r → (v : Verdict) → v ≡ Refused r → verdictIs v ≡ places → Checked b n x
+      pub places-refused : (r : Refusal) (x : Opening) → x ≡ closed r → (v : Verdict) → v ≡ Refused r → verdictIs v ≡ places → Opened (rules7to14 b n) b x
       places-refused r x q v h t = stopped r x q (rules-split ∙ rw (text, numbers, told v r places h t))
 
-      pub all-passed : (sets : Sets) → sets ≡ setsOf (directory b) → places ≡ accepted → Checked b n (record { verdict = Accepted; sets = sets })
+      pub all-passed : (dsds : ℕ) → dsds ≡ dsdsAt b → (sets : Sets) → sets ≡ setsOf (directory b) → places ≡ accepted
+          → Opened (rules7to14 b n) b (record { verdict = Accepted; dsds = dsds; sets = sets })
       unfolding verdictIs
-      all-passed sets q t = record { verdict = sym (rules-split ∙ rw (text, numbers, t)); read = λ a. q }
+      all-passed dsds d sets q t = record { judged = sym (rules-split ∙ rw (text, numbers, t)); begin = λ a. d; held = λ a. q }
 
 -- ---- what check_sets goes by: a reading of the DSDs, and what rules 12 to 14 are answered of its numbers
 

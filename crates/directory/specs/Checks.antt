@@ -6,19 +6,15 @@ use mathlib.Core.List.{List}
 use mathlib.Core.Path.{_≡_}
 use lib.Dec.{eqb}
 use lib.ListN.{length}
-use Rattle.layout.specs.Answer.{Answer, accepted, _orElse_}
+use Rattle.layout.specs.Answer.{Answer, _orElse_}
 use Rattle.layout.specs.Search.{first, find}
-use Rattle.layout.specs.Entries.{Entry, headersEnd, entries, dsdsAt, directory, at, numbersFit}
-use Rattle.layout.specs.Rules.{rule7, rule8, rule9, rule10, dataSets, rule11, rule12At, rule13At, rule14At, rules7to14}
+use Rattle.layout.specs.Entries.{Entry, headersEnd, entries, dsdsAt, at, numbersFit}
+use Rattle.layout.specs.Rules.{rule7, rule8, rule9, rule10, dataSets, rule11, rule12At, rule13At, rule14At}
 use Rattle.layout.specs.Answers.{verdictIs}
-use Rattle.layout.specs.declared.Refusal.{Refusal}
 use Rattle.layout.specs.declared.Verdict.{Verdict}
-use Rattle.layout.specs.declared.Verdict.the-variants as verdict-cases
 use Rattle.dsd.specs.Held.{overPlace, heldOf, viewOf}
 use Rattle.placement.specs.Sets.{Held}
-use Rattle.directory.specs.Numbers.{setsOf, noSets}
 use Rattle.directory.specs.declared.Reading.{Reading}
-use Rattle.directory.specs.declared.DirectoryCheck.{DirectoryCheck}
 
 -- ---- where the DSDs stand
 
@@ -70,12 +66,3 @@ placeRules ds h n = first (rule12At ds h n) 0 (length ds) orElse (first (rule13A
 -- v is what they answer of all entries whose offsets and sizes are these
 pub record Placed (offsets sizes : List ℕ) (k h n : ℕ) (v : Verdict) : Type 0 where
   pub answer : (ds : List Entry) → Held ds offsets sizes → length ds ≡ k → verdictIs v ≡ placeRules ds h n
-
--- a refusal, and nothing beside it
-abbrev pub closed : Refusal → DirectoryCheck
-closed r = record { verdict = verdict-cases.Refused r; sets = noSets }
-
--- the check of a product of n bytes, with its numbers; where a rule refuses, nothing of the numbers
-pub record Checked (b : List ℕ) (n : ℕ) (r : DirectoryCheck) : Type 0 where
-  pub verdict : verdictIs (r .verdict) ≡ rules7to14 b n
-  pub read : rules7to14 b n ≡ accepted → r .sets ≡ setsOf (directory b)

@@ -14,11 +14,12 @@ ghost use Rattle.layout.specs.Answer.{accepted};
 ghost use Rattle.layout.specs.Answers.{verdictIs};
 ghost use Rattle.layout.specs.Entries.{entriesFrom, directory};
 ghost use Rattle.layout.specs.Lines.{sizeOfDsd};
-ghost use Rattle.layout.specs.Rules.{rule8At};
+ghost use Rattle.layout.specs.Rules.{rule8At, rules7to14};
 ghost use Rattle.layout.specs.Search.{first};
 ghost use Rattle.directory.specs.Numbers.{together, noSets, heldSets, directoryWith};
 ghost use Rattle.directory.specs.Texts.{textsFrom, Room};
-ghost use Rattle.directory.specs.Checks.{Headers, Dsds, Counted, textRules, numberRules, Placed, Checked, closed};
+ghost use Rattle.directory.specs.Checks.{Headers, Dsds, Counted, textRules, numberRules, Placed};
+ghost use Rattle.directory.specs.Opening.{closed, Opened};
 
 // The numbers and roles of up to 128 entries held together, unused places zero.
 pub struct Sets {
@@ -66,6 +67,25 @@ impl Sets {
             counts: [0; 128],
             record_sizes: [0; 128],
             roles: [0; 128],
+        }
+    }
+}
+
+// A product, opened as far as rules were asked: the verdict and, where it accepts, where the DSDs begin and the numbers of the directory.
+pub struct Opening {
+    pub verdict: Verdict,
+    pub dsds: usize,
+    pub sets: Sets,
+}
+
+impl Opening {
+    pub fn refuse(refusal: Refusal) -> Opening
+        ensures { λ r. ⌜ r ≡ closed refusal ⌝ }
+    {
+        Opening {
+            verdict: Verdict::Refused(refusal),
+            dsds: 0,
+            sets: Sets::none(),
         }
     }
 }
@@ -212,25 +232,10 @@ fn check_places<'a>(
     Verdict::Accepted
 }
 
-// The check of a directory: the verdict and, where it accepts, its numbers.
-pub struct DirectoryCheck {
-    pub verdict: Verdict,
-    pub sets: Sets,
-}
-
-fn refused_check(refusal: Refusal) -> DirectoryCheck
-    ensures { λ r. ⌜ r ≡ closed refusal ⌝ }
-{
-    DirectoryCheck {
-        verdict: Verdict::Refused(refusal),
-        sets: Sets::none(),
-    }
-}
-
 // Rules 9 to 14, of a product of `length` bytes that meets rules 7 and 8. Its numbers are read once, into arrays made here.
-fn check_sets(p: &[u8], length: u64, headers_end: usize, entries: usize) -> DirectoryCheck
+fn check_sets(p: &[u8], length: u64, headers_end: usize, entries: usize) -> Opening
     requires { ⌜ Headers (now p) «headers_end» entries × (textRules (now p) length ≡ accepted) ⌝ }
-    ensures { λ r. ⌜ Checked (now (p .entry)) length r ⌝ }
+    ensures { λ r. ⌜ Opened (rules7to14 (now (p .entry)) length) (now (p .entry)) r ⌝ }
 {
     let mut types = [0u8; 128];
     let mut offsets = [0u64; 128];
@@ -252,26 +257,27 @@ fn check_sets(p: &[u8], length: u64, headers_end: usize, entries: usize) -> Dire
     );
     let numbers = check_numbers(p, dsds, entries, reading);
     if let Verdict::Refused(refusal) = numbers {
-        return refused_check(refusal);
+        return Opening::refuse(refusal);
     }
     let places = check_places(&offsets, &sizes, entries, headers_end as u64, length);
     if let Verdict::Refused(refusal) = places {
-        return refused_check(refusal);
+        return Opening::refuse(refusal);
     }
-    DirectoryCheck {
+    Opening {
         verdict: Verdict::Accepted,
+        dsds,
         sets: Sets::of(entries, types, offsets, sizes, counts, record_sizes, roles),
     }
 }
 
 // Rules 7 to 14, of a product of `length` bytes whose headers are at hand.
-pub fn check_directory(p: &[u8], length: u64, headers_end: usize, entries: usize) -> DirectoryCheck
+pub fn check_directory(p: &[u8], length: u64, headers_end: usize, entries: usize) -> Opening
     requires { ⌜ Headers (now p) «headers_end» entries ⌝ }
-    ensures { λ r. ⌜ Checked (now (p .entry)) length r ⌝ }
+    ensures { λ r. ⌜ Opened (rules7to14 (now (p .entry)) length) (now (p .entry)) r ⌝ }
 {
     let text = check_text(p, headers_end - Entry::SIZE * entries, entries);
     if let Verdict::Refused(refusal) = text {
-        return refused_check(refusal);
+        return Opening::refuse(refusal);
     }
     check_sets(p, length, headers_end, entries)
 }

@@ -17,11 +17,11 @@ check-text-requires c κs = dsds-of (c .before .pre)
 enum-known-text : tie.Need-enum-known-text
 enum-known-text c = search needs
 
-refused-check-requires : tie.Need-refused-check-requires
-refused-check-requires c κs = search needs
+refuse-requires : tie.Need-refuse-requires
+refuse-requires c κs = search needs
 
 returns : tie.Need-returns
-returns c = text-refused (c .before .before .before .before .before .before .args .p .now) (c .before .before .before .before .before .before .args .length) _ _ (c .refused-check .ensures) (c .before .before .before .before .check-text .result) (c .before .before .text .given .1) (c .before .before .before .before .check-text .ensures (c .before .before .before .before .before .before .args .length))
+returns c = text-refused (c .before .before .before .before .before .before .args .p .now) (c .before .before .before .before .before .before .args .length) _ _ (c .refuse .ensures) (c .before .before .before .before .check-text .result) (c .before .before .text .given .1) (c .before .before .before .before .check-text .ensures (c .before .before .before .before .before .before .args .length))
 
 enum-told : tie.Need-enum-told
 enum-told c = search needs
@@ -40,7 +40,7 @@ check-directory-spec =
     sub-check-text
     check-text-requires
     enum-known-text
-    refused-check-requires
+    refuse-requires
     returns
     enum-told
     check-sets-requires

@@ -22,8 +22,8 @@ check-numbers-requires c κs = let args = c .before .before .before .before .bef
 enum-known-numbers : tie.Need-enum-known-numbers
 enum-known-numbers c = search needs
 
-refused-check-requires : tie.Need-refused-check-requires
-refused-check-requires c κs = search needs
+refuse-requires : tie.Need-refuse-requires
+refuse-requires c κs = search needs
 
 returns : tie.Need-returns
 returns c =
@@ -31,7 +31,7 @@ returns c =
     let pre = c .before .before .before .before .before .before .before .before .before .before .before .before .before .pre in
     let b = args .p .now in
     let length = args .length in
-    numbers-refused b length (pre .1) _ _ (c .refused-check .ensures) (c .before .before .before .before .check-numbers .result) (c .before .before .numbers .given .1) (c .before .before .before .before .check-numbers .ensures length)
+    numbers-refused b length (pre .1) _ _ (c .refuse .ensures) (c .before .before .before .before .check-numbers .result) (c .before .before .numbers .given .1) (c .before .before .before .before .check-numbers .ensures length)
 
 enum-told : tie.Need-enum-told
 enum-told c = search needs
@@ -42,8 +42,8 @@ check-places-requires c κs = search needs
 enum-known-places : tie.Need-enum-known-places
 enum-known-places c = search needs
 
-refused-check-requires-2 : tie.Need-refused-check-requires-2
-refused-check-requires-2 c κs = search needs
+refuse-requires-2 : tie.Need-refuse-requires-2
+refuse-requires-2 c κs = search needs
 
 returns-2 : tie.Need-returns-2
 returns-2 c =
@@ -54,7 +54,7 @@ returns-2 c =
     let numbers = accepts (c .before .before .before .before .before .before .before .before .before .check-numbers .result) _ (c .before .before .before .before .before .before .before .enum-told .given .1) (c .before .before .before .before .before .before .before .before .before .check-numbers .ensures length) in
     let read = c .before .before .before .before .before .before .before .before .before .before .read-sets .ensures in
     let places = places-are b length (args .headers-end) (args .entries) (pre .0) (c .before .before .before .before .before .before .before .before .before .before .read-sets .result) (read .0) (pre .1) numbers _ (read .1) (c .before .before .before .before .check-places .result) (c .before .before .before .before .check-places .ensures) in
-    places-refused b length (pre .1) numbers _ _ (c .refused-check2 .ensures) (c .before .before .before .before .check-places .result) (c .before .before .places .given .1) places
+    places-refused b length (pre .1) numbers _ _ (c .refuse2 .ensures) (c .before .before .before .before .check-places .result) (c .before .before .places .given .1) places
 
 enum-told-2 : tie.Need-enum-told-2
 enum-told-2 c = search needs
@@ -71,7 +71,7 @@ returns-3 c =
     let numbers = accepts (c .before .before .before .before .before .before .before .before .check-numbers .result) _ (c .before .before .before .before .before .before .enum-told .given .1) (c .before .before .before .before .before .before .before .before .check-numbers .ensures length) in
     let read = c .before .before .before .before .before .before .before .before .before .read-sets .ensures in
     let places = places-are b length (args .headers-end) (args .entries) (pre .0) (c .before .before .before .before .before .before .before .before .before .read-sets .result) (read .0) (pre .1) numbers _ (read .1) (c .before .before .before .check-places .result) (c .before .before .before .check-places .ensures) in
-    all-passed b length (pre .1) numbers _ (numbers-read b length (args .headers-end) (args .entries) (pre .0) (c .before .before .before .before .before .before .before .before .before .read-sets .result) (read .0) (pre .1) numbers _ (c .of .ensures ∙ read .1)) (accepts (c .before .before .before .check-places .result) _ (c .before .enum-told2 .given .1) places)
+    all-passed b length (pre .1) numbers _ (dsds-of (pre .0) .begin) _ (numbers-read b length (args .headers-end) (args .entries) (pre .0) (c .before .before .before .before .before .before .before .before .before .read-sets .result) (read .0) (pre .1) numbers _ (c .of .ensures ∙ read .1)) (accepts (c .before .before .before .check-places .result) _ (c .before .enum-told2 .given .1) places)
 
 pub check-sets-spec : {M : Type 1} → statement M
 check-sets-spec =
@@ -82,12 +82,12 @@ check-sets-spec =
     read-sets-requires
     check-numbers-requires
     enum-known-numbers
-    refused-check-requires
+    refuse-requires
     returns
     enum-told
     check-places-requires
     enum-known-places
-    refused-check-requires-2
+    refuse-requires-2
     returns-2
     enum-told-2
     of-requires
