@@ -26,6 +26,7 @@ use Rattle.layout.specs.Sph.{sphLines}
 use Rattle.layout.specs.Entries.{Entry, eqZ, headerNumber, numDataSets, headersEnd, entries, dsdsAt, dsdAt, dsdBytes, entryOf, entryFrom, entriesFrom, entryAt, directory, at, start, extent, nonEmpty, isData, isReference, allZero, inRange, setFits, numbersFit}
 use Rattle.layout.specs.Rules.{linesOf, rule7At, rule7, rule8At, rule8, rule9At, rule9, rule10At, rule10, rule11, rule12, rule13, rule14, rules7to14}
 use Rattle.layout.proofs.Laws.{accepted≢refused, need-accepts, orElse-accepts, orElse-assoc, first-accepts-0, first-found, find-bounds}
+use Rattle.layout.proofs.Replies.{told-refused}
 use Rattle.layout.proofs.Padded.{padded-at}
 use Rattle.layout.proofs.Sound.{length-directory, at-directory, entry-at}
 use Rattle.layout.proofs.Tests.{is-true}
@@ -221,14 +222,6 @@ over-place b dsds n i placed h read =
 
 -- ---- the rules in their order
 
-told : (v : Verdict) (r : Refusal) (a : Answer) → v ≡ Refused r → verdictIs v ≡ a → a ≡ refused (r .number) (r .place) (r .entry)
-unfolding verdictIs
-told v r a q h = sym h ∙ rw q
-
-pub accepts : (v : Verdict) (a : Answer) → v ≡ Accepted → verdictIs v ≡ a → a ≡ accepted
-unfolding verdictIs
-accepts v a q h = sym h ∙ rw q
-
 module _ (b : List ℕ) (n : ℕ) where
   abbrev places : Answer
   places = placeRules (directory b) (headersEnd b) n
@@ -243,15 +236,15 @@ module _ (b : List ℕ) (n : ℕ) where
   stopped r x q h = rw q (record { judged = sym h; begin = λ a. absurd (accepted≢refused (sym a ∙ h)); held = λ a. absurd (accepted≢refused (sym a ∙ h)) })
 
   pub text-refused : (r : Refusal) (x : Opening) → x ≡ closed r → (v : Verdict) → v ≡ Refused r → verdictIs v ≡ textRules b n → Opened (rules7to14 b n) b x
-  text-refused r x q v h t = stopped r x q (rules-split ∙ rw (told v r (textRules b n) h t))
+  text-refused r x q v h t = stopped r x q (rules-split ∙ rw (told-refused v r (textRules b n) h t))
 
   module _ (text : textRules b n ≡ accepted) where
     pub numbers-refused : (r : Refusal) (x : Opening) → x ≡ closed r → (v : Verdict) → v ≡ Refused r → verdictIs v ≡ numberRules b n → Opened (rules7to14 b n) b x
-    numbers-refused r x q v h t = stopped r x q (rules-split ∙ rw (text, told v r (numberRules b n) h t))
+    numbers-refused r x q v h t = stopped r x q (rules-split ∙ rw (text, told-refused v r (numberRules b n) h t))
 
     module _ (numbers : numberRules b n ≡ accepted) where
       pub places-refused : (r : Refusal) (x : Opening) → x ≡ closed r → (v : Verdict) → v ≡ Refused r → verdictIs v ≡ places → Opened (rules7to14 b n) b x
-      places-refused r x q v h t = stopped r x q (rules-split ∙ rw (text, numbers, told v r places h t))
+      places-refused r x q v h t = stopped r x q (rules-split ∙ rw (text, numbers, told-refused v r places h t))
 
       pub all-passed : (dsds : ℕ) → dsds ≡ dsdsAt b → (sets : Sets) → sets ≡ setsOf (directory b) → places ≡ accepted
           → Opened (rules7to14 b n) b (record { verdict = Accepted; dsds = dsds; sets = sets })

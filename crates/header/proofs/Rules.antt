@@ -21,8 +21,9 @@ use Rattle.layout.specs.Rules.{rule1, rule2, rule3, rule4, rule5, rule6, sphFit
 use Rattle.layout.specs.Answers.{verdictIs}
 use Rattle.layout.specs.declared.Refusal.{Refusal}
 use Rattle.layout.specs.declared.Verdict.{Verdict}
-use Rattle.layout.specs.declared.Verdict.the-variants.{Accepted, Refused}
+use Rattle.layout.specs.declared.Verdict.the-variants.{Refused}
 use Rattle.layout.proofs.Laws.{and-T, leb-T, accepted≢refused, need-accepts, orElse-accepts, orElse-assoc}
+use Rattle.layout.proofs.Replies.{told-refused}
 use Rattle.text.specs.Numbers.{numberIn, wholeIn}
 use Rattle.text.proofs.Laws.{magnitude-test, whole-true}
 use Rattle.header.specs.Checks.{lengthRules, totalRules, HeadersFit}
@@ -140,16 +141,10 @@ module _ (b : List ℕ) where
 -- ---- their order
 
 stops : (v : Verdict) (r : Refusal) (x y : Answer) → v ≡ Refused r → verdictIs v ≡ x → verdictIs v ≡ x orElse y
-unfolding verdictIs
-stops v r x y told e = let q : x ≡ refused (r .number) (r .place) (r .entry) = sym e ∙ ap verdictIs told in e ∙ rw q
-
-pub goes-on : (v : Verdict) (x : Answer) → v ≡ Accepted → verdictIs v ≡ x → x ≡ accepted
-unfolding verdictIs
-goes-on v x told e = sym e ∙ ap verdictIs told
+stops v r x y told e = e ∙ rw (told-refused v r x told e)
 
 pub never : (v : Verdict) (r : Refusal) (x : Answer) → v ≡ Refused r → verdictIs v ≡ x → x ≡ accepted → ⊥
-unfolding verdictIs
-never v r x told e h = accepted≢refused (sym h ∙ sym e ∙ ap verdictIs told)
+never v r x told e h = accepted≢refused (sym h ∙ told-refused v r x told e)
 
 module _ (b : List ℕ) (n : ℕ) where
   in-groups : rules1to6 b n ≡ (lengthRules n orElse laidOut 3 128 0 (layout mph) b orElse totalRules b n orElse rule6 b n)

@@ -2,10 +2,26 @@
 -- Assumes nothing.
 use Prim.Native.Nat.{ℕ, _≤_}
 use mathlib.Core.Bool.{Bool, true, false}
-use mathlib.Core.Path.{_≡_, refl, sym}
+use mathlib.Core.Path.{_≡_, refl, sym, _∙_}
 use native.Mathlib.Omega.{arith}
 use Rattle.layout.specs.Answer.{Answer, accepted, refused, need, Reply, refusal, is, _orElse_, _else_, _before_}
+use Rattle.layout.specs.Answers.{verdictIs}
+use Rattle.layout.specs.declared.Refusal.{Refusal}
+use Rattle.layout.specs.declared.Verdict.{Verdict}
+use Rattle.layout.specs.declared.Verdict.the-variants.{Accepted, Refused}
 use Rattle.layout.proofs.Laws.{accepted≢refused}
+
+-- ---- what a verdict tells of the answer that it is
+
+pub told-refused : (v : Verdict) (r : Refusal) (a : Answer) → v ≡ Refused r → verdictIs v ≡ a → a ≡ refused (r .number) (r .place) (r .entry)
+unfolding verdictIs
+told-refused v r a q h = sym h ∙ rw q
+
+pub told-accepted : (v : Verdict) (a : Answer) → v ≡ Accepted → verdictIs v ≡ a → a ≡ accepted
+unfolding verdictIs
+told-accepted v a q h = sym h ∙ rw q
+
+-- ---- a reply's value
 
 module _ {A : Type 0} where
   pub refusal≢is : (n p e : ℕ) (x : A) → refusal n p e ≡ is x → ⊥

@@ -1,7 +1,8 @@
 -- `directory::check_directory` meets its contract: the first check that refuses decides.
 -- Assumes nothing.
 use borrow.Author.Needs.{needs}
-use Rattle.directory.proofs.Rules.{dsds-of, accepts, text-refused}
+use Rattle.layout.proofs.Replies.{told-accepted}
+use Rattle.directory.proofs.Rules.{dsds-of, text-refused}
 use Rattle.directory.proofs.check_directory.Statement.{statement}
 use Rattle.directory.proofs.check_directory.Tie as tie
 
@@ -27,7 +28,7 @@ enum-told : tie.Need-enum-told
 enum-told c = search needs
 
 check-sets-requires : tie.Need-check-sets-requires
-check-sets-requires c κs = (c .before .before .before .before .pre, accepts (c .before .before .check-text .result) _ (c .enum-told .given .1) (c .before .before .check-text .ensures (c .before .before .before .before .args .length)))
+check-sets-requires c κs = (c .before .before .before .before .pre, told-accepted (c .before .before .check-text .result) _ (c .enum-told .given .1) (c .before .before .check-text .ensures (c .before .before .before .before .args .length)))
 
 returns-2 : tie.Need-returns-2
 returns-2 c = search needs

@@ -3,7 +3,8 @@
 use mathlib.Core.Path.{refl, _∙_}
 use native.Mathlib.Omega.{arith}
 use borrow.Author.Needs.{needs}
-use Rattle.directory.proofs.Rules.{dsds-of, accepts, numbers-refused, places-refused, all-passed, of-directory, numbers-read, places-are}
+use Rattle.layout.proofs.Replies.{told-accepted}
+use Rattle.directory.proofs.Rules.{dsds-of, numbers-refused, places-refused, all-passed, of-directory, numbers-read, places-are}
 use Rattle.directory.proofs.check_sets.Statement.{statement}
 use Rattle.directory.proofs.check_sets.Tie as tie
 
@@ -51,7 +52,7 @@ returns-2 c =
     let pre = c .before .before .before .before .before .before .before .before .before .before .before .before .before .before .before .before .before .before .pre in
     let b = args .p .now in
     let length = args .length in
-    let numbers = accepts (c .before .before .before .before .before .before .before .before .before .check-numbers .result) _ (c .before .before .before .before .before .before .before .enum-told .given .1) (c .before .before .before .before .before .before .before .before .before .check-numbers .ensures length) in
+    let numbers = told-accepted (c .before .before .before .before .before .before .before .before .before .check-numbers .result) _ (c .before .before .before .before .before .before .before .enum-told .given .1) (c .before .before .before .before .before .before .before .before .before .check-numbers .ensures length) in
     let read = c .before .before .before .before .before .before .before .before .before .before .read-sets .ensures in
     let places = places-are b length (args .headers-end) (args .entries) (pre .0) (c .before .before .before .before .before .before .before .before .before .before .read-sets .result) (read .0) (pre .1) numbers _ (read .1) (c .before .before .before .before .check-places .result) (c .before .before .before .before .check-places .ensures) in
     places-refused b length (pre .1) numbers _ _ (c .refuse2 .ensures) (c .before .before .before .before .check-places .result) (c .before .before .places .given .1) places
@@ -68,10 +69,10 @@ returns-3 c =
     let pre = c .before .before .before .before .before .before .before .before .before .before .before .before .before .before .before .before .before .pre in
     let b = args .p .now in
     let length = args .length in
-    let numbers = accepts (c .before .before .before .before .before .before .before .before .check-numbers .result) _ (c .before .before .before .before .before .before .enum-told .given .1) (c .before .before .before .before .before .before .before .before .check-numbers .ensures length) in
+    let numbers = told-accepted (c .before .before .before .before .before .before .before .before .check-numbers .result) _ (c .before .before .before .before .before .before .enum-told .given .1) (c .before .before .before .before .before .before .before .before .check-numbers .ensures length) in
     let read = c .before .before .before .before .before .before .before .before .before .read-sets .ensures in
     let places = places-are b length (args .headers-end) (args .entries) (pre .0) (c .before .before .before .before .before .before .before .before .before .read-sets .result) (read .0) (pre .1) numbers _ (read .1) (c .before .before .before .check-places .result) (c .before .before .before .check-places .ensures) in
-    all-passed b length (pre .1) numbers _ (dsds-of (pre .0) .begin) _ (numbers-read b length (args .headers-end) (args .entries) (pre .0) (c .before .before .before .before .before .before .before .before .before .read-sets .result) (read .0) (pre .1) numbers _ (c .of .ensures ∙ read .1)) (accepts (c .before .before .before .check-places .result) _ (c .before .enum-told2 .given .1) places)
+    all-passed b length (pre .1) numbers _ (dsds-of (pre .0) .begin) _ (numbers-read b length (args .headers-end) (args .entries) (pre .0) (c .before .before .before .before .before .before .before .before .before .read-sets .result) (read .0) (pre .1) numbers _ (c .of .ensures ∙ read .1)) (told-accepted (c .before .before .before .check-places .result) _ (c .before .enum-told2 .given .1) places)
 
 pub check-sets-spec : {M : Type 1} → statement M
 check-sets-spec =

@@ -5,7 +5,8 @@ use mathlib.Core.Path.{refl, sym, ap, _∙_}
 use native.Mathlib.Omega.{arith}
 use borrow.Author.Needs.{needs}
 use Rattle.values.proofs.Places.{headers-end-at, entries-at}
-use Rattle.header.proofs.Rules.{goes-on, never, long-enough, sph-most, headers-fit}
+use Rattle.layout.proofs.Replies.{told-accepted}
+use Rattle.header.proofs.Rules.{never, long-enough, sph-most, headers-fit}
 use Rattle.header.proofs.check_header.Statement.{statement}
 use Rattle.header.proofs.check_header.Tie as tie
 
@@ -27,13 +28,13 @@ enum-told-2 : tie.Need-enum-told-2
 enum-told-2 c = search needs
 
 magnitude-at-requires : tie.Need-magnitude-at-requires
-magnitude-at-requires c κs = omega (arith, c .before .before .before .before .pre (long-enough _ _ (goes-on _ _ (c .enum-told2 .given .1) (c .before .before .header-rules .ensures))))
+magnitude-at-requires c κs = omega (arith, c .before .before .before .before .pre (long-enough _ _ (told-accepted _ _ (c .enum-told2 .given .1) (c .before .before .header-rules .ensures))))
 
 add-t6 : tie.Need-add-t6
-add-t6 c = record { fits = omega (arith, c .magnitude-at .ensures, sph-most _ _ (goes-on _ _ (c .before .enum-told2 .given .1) (c .before .before .before .header-rules .ensures))) }
+add-t6 c = record { fits = omega (arith, c .magnitude-at .ensures, sph-most _ _ (told-accepted _ _ (c .before .enum-told2 .given .1) (c .before .before .before .header-rules .ensures))) }
 
 magnitude-at-requires-2 : tie.Need-magnitude-at-requires-2
-magnitude-at-requires-2 c κs = omega (arith, c .before .before .before .before .before .pre (long-enough _ _ (goes-on _ _ (c .before .enum-told2 .given .1) (c .before .before .before .header-rules .ensures))))
+magnitude-at-requires-2 c κs = omega (arith, c .before .before .before .before .before .pre (long-enough _ _ (told-accepted _ _ (c .before .enum-told2 .given .1) (c .before .before .before .header-rules .ensures))))
 
 returns-2 : tie.Need-returns-2
 returns-2 c =
@@ -41,7 +42,7 @@ returns-2 c =
     record {
       verdict-is = header-rules .ensures;
       headers = λ h. headers-fit _ _ h _ (ap (λ (m : ℕ). 1247 + m) (c .before .magnitude-at .ensures) ∙ sym (headers-end-at _)) (c .magnitude-at2 .ensures ∙ sym (entries-at _));
-      nothing = λ h. absurd (h (goes-on _ _ (c .before .before .enum-told2 .given .1) (header-rules .ensures)));
+      nothing = λ h. absurd (h (told-accepted _ _ (c .before .before .enum-told2 .given .1) (header-rules .ensures)));
     }
 
 pub check-header-spec : {M : Type 1} → statement M
