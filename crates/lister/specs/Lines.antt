@@ -1,6 +1,6 @@
 -- The listing (document 01, "The listing") as the layout's definition has it, but from a verdict, a length and a directory's arrays.
 -- Assumes nothing.
-use Prim.Native.Nat.{ℕ, _+_}
+use Prim.Native.Nat.{ℕ}
 use mathlib.Core.List.{List, [], _∷_, _++_, map}
 use lib.IntN.{pos}
 use lib.ListN.{getD}
