@@ -18,10 +18,10 @@ use Rattle.layout.proofs.Laws.{accepted≢refused}
 use Rattle.layout.proofs.Replies.{refusal≢is, Numbered, NumberedReply}
 use Rattle.product.proofs.Numbers.{verdict-number, sph-number, record-number, field-number, point-number}
 use Rattle.words.specs.Words.{verdictWords, placeWords, fieldWords, pointWords, pointDoubles}
-use Rattle.tables.specs.Tables.{headerWords, headerTexts, directoryWords, directoryTexts}
-use Rattle.rooms.specs.Lent.{OneRoom, TwoRooms}
-use Rattle.rooms.proofs.Lengths.{verdict-three, place-five, field-seven, point-three}
-use Rattle.rooms.proofs.Results.{room-word, first-room-word}
+use Rattle.words.specs.Headers.{headerWords, headerTexts, directoryWords, directoryTexts}
+use Rattle.words.specs.Lent.{OneRoom, TwoRooms}
+use Rattle.words.proofs.Lengths.{verdict-three, place-five, field-seven, point-three}
+use Rattle.words.proofs.Results.{room-word, first-room-word}
 
 -- ---- the first word of an answer, `d` where it has none
 

@@ -1,15 +1,15 @@
 // The reader for C and Rust: every public call, its answer written into rooms that the host lends. `include/ambrothel.h` declares them.
 // A room too short for the answer returns 1, and nothing is written.
-use rooms::ROOM_TOO_SHORT;
-use rooms::WRITTEN;
-use rooms::put_part;
-use rooms::put_whole_directory;
-use rooms::put_whole_header;
+use words::ROOM_TOO_SHORT;
+use words::WRITTEN;
 use words::put_doubles;
 use words::put_field;
+use words::put_part;
 use words::put_place;
 use words::put_point;
 use words::put_verdict;
+use words::put_whole_directory;
+use words::put_whole_header;
 ghost use mathlib.Core.List.{[], _∷_};
 ghost use lib.ListN.{length};
 ghost use Rattle.layout.specs.Rules.{verdict};
@@ -18,8 +18,8 @@ ghost use Rattle.values.specs.Header.{headerFor};
 ghost use Rattle.layout.specs.Records.{sphPlace, recordPlace, partOf};
 ghost use Rattle.layout.specs.Fields.{fieldReply, pointReply};
 ghost use Rattle.words.specs.Words.{verdictWords, placeWords, fieldWords, pointWords, pointDoubles};
-ghost use Rattle.tables.specs.Tables.{headerWords, headerTexts, directoryWords, directoryTexts};
-ghost use Rattle.rooms.specs.Lent.{OneRoom, TwoRooms};
+ghost use Rattle.words.specs.Headers.{headerWords, headerTexts, directoryWords, directoryTexts};
+ghost use Rattle.words.specs.Lent.{OneRoom, TwoRooms};
 
 #[no_mangle]
 pub extern "C" fn ambrothel_judge(p: &[u8], words: &mut [u64]) -> u32

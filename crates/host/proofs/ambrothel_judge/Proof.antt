@@ -4,8 +4,8 @@ use mathlib.Core.Path.{ap}
 use native.Mathlib.Omega.{arith}
 use Rattle.words.specs.Words.{verdictWords}
 use Rattle.writing.proofs.Puts.{spelled}
-use Rattle.rooms.proofs.Rooms.{one-short, one-written}
-use Rattle.rooms.proofs.Lengths.{verdict-three}
+use Rattle.words.proofs.Lent.{one-short, one-written}
+use Rattle.words.proofs.Lengths.{verdict-three}
 use borrow.Author.Needs.{needs}
 use Rattle.host.proofs.ambrothel_judge.Statement.{statement}
 use Rattle.host.proofs.ambrothel_judge.Tie as tie

@@ -4,8 +4,8 @@ use mathlib.Core.Path.{ap}
 use native.Mathlib.Omega.{arith}
 use Rattle.words.specs.Words.{pointWords, pointDoubles}
 use Rattle.writing.proofs.Puts.{spelled}
-use Rattle.rooms.proofs.Rooms.{first-short, second-short, both-written}
-use Rattle.rooms.proofs.Lengths.{point-three, doubles-three}
+use Rattle.words.proofs.Lent.{first-short, second-short, both-written}
+use Rattle.words.proofs.Lengths.{point-three, doubles-three}
 use borrow.Author.Needs.{needs}
 use Rattle.host.proofs.ambrothel_point_at.Statement.{statement}
 use Rattle.host.proofs.ambrothel_point_at.Tie as tie

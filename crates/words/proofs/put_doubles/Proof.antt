@@ -1,7 +1,7 @@
 -- `words::put_doubles` meets its contract, by the cases of the answer.
 -- Assumes nothing.
 use Rattle.writing.proofs.Puts.{spelled}
-use Rattle.words.proofs.Laws.{point-doubles, no-point-doubles}
+use Rattle.words.proofs.AnswerWords.{point-doubles, no-point-doubles}
 use borrow.Author.Needs.{needs}
 use Rattle.words.proofs.put_doubles.Statement.{statement}
 use Rattle.words.proofs.put_doubles.Tie as tie

@@ -5,7 +5,7 @@ use mathlib.Core.List.{List, _∷_}
 use mathlib.Core.Path.{_∙_, ap}
 use native.Mathlib.Omega.{arith}
 use Rattle.writing.proofs.Puts.{then, at-most, spelled}
-use Rattle.words.proofs.Laws.{field-words, no-field-words}
+use Rattle.words.proofs.AnswerWords.{field-words, no-field-words}
 use borrow.Author.Needs.{needs}
 use Rattle.words.proofs.put_field.Statement.{statement}
 use Rattle.words.proofs.put_field.Tie as tie

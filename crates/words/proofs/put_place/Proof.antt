@@ -1,7 +1,7 @@
 -- `words::put_place` meets its contract, by the cases of the answer.
 -- Assumes nothing.
 use Rattle.writing.proofs.Puts.{then, spelled}
-use Rattle.words.proofs.Laws.{place-words, no-place-words}
+use Rattle.words.proofs.AnswerWords.{place-words, no-place-words}
 use borrow.Author.Needs.{needs}
 use Rattle.words.proofs.put_place.Statement.{statement}
 use Rattle.words.proofs.put_place.Tie as tie

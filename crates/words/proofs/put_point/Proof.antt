@@ -1,7 +1,7 @@
 -- `words::put_point` meets its contract, by the cases of the answer.
 -- Assumes nothing.
 use Rattle.writing.proofs.Puts.{spelled}
-use Rattle.words.proofs.Laws.{point-words, no-point-words}
+use Rattle.words.proofs.AnswerWords.{point-words, no-point-words}
 use borrow.Author.Needs.{needs}
 use Rattle.words.proofs.put_point.Statement.{statement}
 use Rattle.words.proofs.put_point.Tie as tie

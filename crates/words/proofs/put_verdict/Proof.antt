@@ -1,7 +1,7 @@
 -- `words::put_verdict` meets its contract, by the cases of the verdict.
 -- Assumes nothing.
 use Rattle.writing.proofs.Puts.{spelled}
-use Rattle.words.proofs.Laws.{accepted-words, refused-words}
+use Rattle.words.proofs.AnswerWords.{accepted-words, refused-words}
 use borrow.Author.Needs.{needs}
 use Rattle.words.proofs.put_verdict.Statement.{statement}
 use Rattle.words.proofs.put_verdict.Tie as tie

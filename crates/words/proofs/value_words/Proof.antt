@@ -5,7 +5,7 @@ use mir.Syntax.{w32, w64}
 use mir.Val.{SFits}
 use mir.Facts.{toZ-ofZ, sfits-widen}
 use Rattle.words.specs.Words.{word}
-use Rattle.words.proofs.Laws.{whole-words, single-words, double-words, time-words}
+use Rattle.words.proofs.AnswerWords.{whole-words, single-words, double-words, time-words}
 use borrow.Author.Needs.{needs}
 use Rattle.words.proofs.value_words.Statement.{statement}
 use Rattle.words.proofs.value_words.Tie as tie

@@ -1,0 +1,50 @@
+-- The laws of lent rooms: an answer put from the first place on fills its room, and a room too short stays as it was.
+-- Assumes nothing.
+use Prim.Native.Nat.{ℕ, _≤_, _<_}
+use mathlib.Core.Bool.{true, false}
+use mathlib.Core.Path.{_≡_, _∙_}
+use mathlib.Core.List.{List, _++_}
+use native.Mathlib.Omega.{arith}
+use native.Mathlib.Nat.{zero-add}
+use lib.ListN.{length, drop}
+use lib.Seq.{sets-eq}
+use borrow.Author.Tests.{le-leb, lt-leb}
+use Rattle.writing.specs.Put.{Put}
+use Rattle.words.specs.Lent.{longEnough, told, filled, OneRoom, TwoRooms}
+
+module _ {A : Type 0} (answer old : List A) where
+  enough : length answer ≤ length old → longEnough old answer ≡ true
+  unfolding longEnough
+  enough h = le-leb (length answer) (length old) h
+
+  short : length old < length answer → longEnough old answer ≡ false
+  unfolding longEnough
+  short h = lt-leb (length answer) (length old) h
+
+  -- an answer put from the first place on
+  put-first : {w r : ℕ} {new : List A} → Put w answer old new 0 r → length answer ≤ length old → new ≡ answer ++ drop (length answer) old
+  put-first p h = p .written ∙ sets-eq answer old 0 (omega (arith, h)) ∙ rw zero-add
+
+  pub one-short : length old < length answer → OneRoom answer old old 1
+  unfolding told filled
+  one-short h = record { returned = rw (short h); written = rw (short h) }
+
+  pub one-written : {w r : ℕ} {new : List A} → Put w answer old new 0 r → length answer ≤ length old → OneRoom answer old new 0
+  unfolding told filled
+  one-written p h = record { returned = rw (enough h); written = rw (enough h) (put-first p h) }
+
+module _ {A B : Type 0} (answer old : List A) (answer′ old′ : List B) where
+  pub first-short : length old < length answer → TwoRooms answer old old answer′ old′ old′ 1
+  unfolding told filled
+  first-short h = let e = short answer old h in record { returned = rw e; written = rw e; written′ = rw e }
+
+  pub second-short : length answer ≤ length old → length old′ < length answer′ → TwoRooms answer old old answer′ old′ old′ 1
+  unfolding told filled
+  second-short g h = let d = enough answer old g in let e = short answer′ old′ h in record { returned = rw (d, e); written = rw (d, e); written′ = rw (d, e) }
+
+  pub both-written : {v w r r′ : ℕ} {new : List A} {new′ : List B} → Put v answer old new 0 r → Put w answer′ old′ new′ 0 r′ → length answer ≤ length old → length answer′ ≤ length old′ → TwoRooms answer old new answer′ old′ new′ 0
+  unfolding told filled
+  both-written p q g h =
+      let d = enough answer old g in
+      let e = enough answer′ old′ h in
+      record { returned = rw (d, e); written = rw (d, e) (put-first answer old p g); written′ = rw (d, e) (put-first answer′ old′ q h) }
