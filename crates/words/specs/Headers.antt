@@ -1,7 +1,8 @@
 -- The main header and the directory as a host gets them: words of 64 bits and texts. Every list has one length, whatever is answered.
 -- Assumes nothing.
-use Prim.Native.Nat.{ℕ}
+use Prim.Native.Nat.{ℕ, _+_}
 use mathlib.Core.List.{List, [], _∷_, _++_, map}
+use lib.ListN.{length}
 use Rattle.layout.specs.Answer.{Answer}
 use Rattle.values.specs.declared.Identity.{Identity}
 use Rattle.values.specs.declared.Sensing.{Sensing}
@@ -10,6 +11,7 @@ use Rattle.values.specs.declared.Clock.{Clock}
 use Rattle.values.specs.declared.Sizes.{Sizes}
 use Rattle.values.specs.declared.MainHeader.{MainHeader}
 use Rattle.layout.specs.declared.Directory.{Directory}
+use Rattle.writing.specs.Put.{Put}
 use Rattle.words.specs.Words.{word, verdictWords}
 
 -- ---- the main header: its numbers and bytes, and its texts, in the order of the lines
@@ -45,3 +47,11 @@ directoryWords v d = verdictWords v ++ ((d .entries ∷ []) ++ (d .types ++ ((d 
 
 unfoldable pub directoryTexts : Directory → List ℕ
 directoryTexts d = d .names ++ d .filenames
+
+-- ---- put one behind the other
+
+abbrev pub PutTwo : (first second old new : List ℕ) (at r : ℕ) → Type 0
+PutTwo first second = Put (length first + length second) (first ++ second)
+
+abbrev pub PutThree : (first second third old new : List ℕ) (at r : ℕ) → Type 0
+PutThree first second third = Put (length first + (length second + length third)) (first ++ (second ++ third))

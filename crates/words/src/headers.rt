@@ -13,12 +13,11 @@ use values::Orbit;
 use values::Sensing;
 use values::Sizes;
 use writing::put_text;
-ghost use mathlib.Core.List.{_++_};
 ghost use Prim.Native.Nat.{_+_, _≤_};
 ghost use lib.ListN.{length};
 ghost use Rattle.layout.specs.Answers.{verdictIs};
 ghost use Rattle.writing.specs.Put.{Put};
-ghost use Rattle.words.specs.Headers.{identityWords, sensingWords, orbitWords, clockWords, sizesWords, headerWords, identityTexts, headerTexts, directoryWords, directoryTexts};
+ghost use Rattle.words.specs.Headers.{identityWords, sensingWords, orbitWords, clockWords, sizesWords, headerWords, identityTexts, headerTexts, directoryWords, directoryTexts, PutTwo, PutThree};
 
 fn put_identity(room: &mut [u64], at: usize, header: Identity) -> usize
     requires { ⌜ at + 1 ≤ length (now room) ⌝ }
@@ -99,7 +98,7 @@ pub(crate) fn put_header(room: &mut [u64], verdict: Verdict, header: MainHeader)
 
 fn put_two_texts<'a>(room: &mut [u8], at: usize, first: &'a [u8], second: &'a [u8]) -> usize
     requires { ⌜ at + (length (now first) + length (now second)) ≤ length (now room) ⌝ }
-    ensures { λ r. ⌜ Put (length (now (first .entry)) + length (now (second .entry))) (now (first .entry) ++ now (second .entry)) (now (room .entry)) (now (room .exit)) at r ⌝ }
+    ensures { λ r. ⌜ PutTwo (now (first .entry)) (now (second .entry)) (now (room .entry)) (now (room .exit)) at r ⌝ }
 {
     let next = put_text(room, at, first);
     put_text(room, next, second)
@@ -145,7 +144,7 @@ fn put_arrays<'a>(
     counts: &'a [u64],
 ) -> usize
     requires { ⌜ at + (length (now offsets) + (length (now sizes) + length (now counts))) ≤ length (now room) ⌝ }
-    ensures { λ r. ⌜ Put (length (now (offsets .entry)) + (length (now (sizes .entry)) + length (now (counts .entry)))) (now (offsets .entry) ++ (now (sizes .entry) ++ now (counts .entry))) (now (room .entry)) (now (room .exit)) at r ⌝ }
+    ensures { λ r. ⌜ PutThree (now (offsets .entry)) (now (sizes .entry)) (now (counts .entry)) (now (room .entry)) (now (room .exit)) at r ⌝ }
 {
     let placed = put_words(room, at, offsets);
     let sized = put_words(room, placed, sizes);

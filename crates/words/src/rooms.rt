@@ -8,11 +8,8 @@ use layout::Directory;
 use layout::Verdict;
 use values::MainHeader;
 use writing::put_text;
-ghost use mathlib.Core.List.{[], _∷_};
-ghost use lib.ListN.{length};
 ghost use Rattle.layout.specs.Answers.{verdictIs};
-ghost use Rattle.words.specs.Headers.{headerWords, headerTexts, directoryWords, directoryTexts};
-ghost use Rattle.words.specs.Lent.{TwoRooms};
+ghost use Rattle.words.specs.Rooms.{DirectoryRooms, HeaderRooms, PartRooms};
 
 pub const WRITTEN: u32 = 0;
 
@@ -25,7 +22,7 @@ pub fn put_whole_directory(
     words: &mut [u64],
     texts: &mut [u8],
 ) -> u32
-    ensures { λ r. ⌜ TwoRooms (directoryWords (verdictIs verdict) directory) (now (words .entry)) (now (words .exit)) (directoryTexts directory) (now (texts .entry)) (now (texts .exit)) r ⌝ }
+    ensures { λ r. ⌜ DirectoryRooms (verdictIs verdict) directory (now (words .entry)) (now (words .exit)) (now (texts .entry)) (now (texts .exit)) r ⌝ }
 {
     if words.len() < 644 {
         return ROOM_TOO_SHORT;
@@ -45,7 +42,7 @@ pub fn put_whole_header(
     words: &mut [u64],
     texts: &mut [u8],
 ) -> u32
-    ensures { λ r. ⌜ TwoRooms (headerWords (verdictIs verdict) header) (now (words .entry)) (now (words .exit)) (headerTexts header) (now (texts .entry)) (now (texts .exit)) r ⌝ }
+    ensures { λ r. ⌜ HeaderRooms (verdictIs verdict) header (now (words .entry)) (now (words .exit)) (now (texts .entry)) (now (texts .exit)) r ⌝ }
 {
     if words.len() < 25 {
         return ROOM_TOO_SHORT;
@@ -60,7 +57,7 @@ pub fn put_whole_header(
 
 // The part and its length, where both have room.
 pub fn put_part(part: &[u8], words: &mut [u64], bytes: &mut [u8]) -> u32
-    ensures { λ r. ⌜ TwoRooms (length (now (part .entry)) ∷ []) (now (words .entry)) (now (words .exit)) (now (part .entry)) (now (bytes .entry)) (now (bytes .exit)) r ⌝ }
+    ensures { λ r. ⌜ PartRooms (now (part .entry)) (now (words .entry)) (now (words .exit)) (now (bytes .entry)) (now (bytes .exit)) r ⌝ }
 {
     if words.len() < 1 {
         return ROOM_TOO_SHORT;

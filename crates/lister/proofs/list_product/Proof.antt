@@ -25,7 +25,9 @@ same-length-2 : tie.Need-same-length-2
 same-length-2 c = search needs
 
 returns-2 : tie.Need-returns-2
-returns-2 c = rw (listed (c .before .before .before .before .before .before .before .before .before .args .p .now) (c .before .before .before .before .before .before .if1 .left) _ _ (c .before .before .before .before .before .open-directory .ensures .0) (c .before .before .before .before .before .open-directory .ensures .1)) (c .before .before .write-listing .ensures)
+returns-2 c =
+    let opened = c .before .before .before .before .before .open-directory in
+    rw (listed (c .before .before .before .before .before .before .before .before .before .args .p .now) (c .before .before .before .before .before .before .if1 .left) _ _ (opened .ensures .0) (opened .ensures .1)) (c .before .before .write-listing .ensures)
 
 pub list-product-spec : {M : Type 1} → statement M
 list-product-spec =

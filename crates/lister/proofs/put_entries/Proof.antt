@@ -66,11 +66,12 @@ loop-less c = omega arith
 
 loop-again : tie.Need-loop-again Inv-loop μ-loop
 loop-again c =
-    let i = c .before .before .before .before .before .before .before .before .before .before .before .before .before .loop .i in
+    let turn = c .before .before .before .before .before .before .before .before .before .before .before .before .before .loop in
+    let i = turn .i in
     let d = c .before .before .before .before .before .before .before .before .before .before .before .before .before .before .before .args .t3 in
     let size = getD (d .«record_sizes») i (pos 0) in
     let back = toZ-ofZ {w = w64} {z = size} (record { sfits = c .before .before .before .before .before .before .before .t27 .given }) in
-    let put = c .before .before .before .before .before .before .before .before .before .before .before .before .before .loop .inv .1 in
+    let put = turn .inv .1 in
     let more = spelled (sym (texts-more d i)) (then put (spelled (read-line d i (toZ w64 (ofZ w64 size)) back) (c .before .before .put-entry .ensures))) in
     (omega arith, at-most (143 * (i + 1)) more (omega (arith, more .narrow)))
 

@@ -24,17 +24,19 @@ same-length c = search needs
 
 returns : tie.Need-returns
 returns c =
-    let a = c .before .before .before .before .before .before .before .args in
-    from-start 32768 (spelled (listing-accepted (a .verdict) (a .size) (a .directory) (c .before .before .before .before .enum-told .given .1)) (c .before .before .put-accepted .ensures)) (omega arith) (c .before .before .before .before .before .before .before .pre .0)
+    let start = c .before .before .before .before .before .before .before in
+    let a = start .args in
+    from-start 32768 (spelled (listing-accepted (a .verdict) (a .size) (a .directory) (c .before .before .before .before .enum-told .given .1)) (c .before .before .put-accepted .ensures)) (omega arith) (start .pre .0)
 
 same-length-2 : tie.Need-same-length-2
 same-length-2 c = search needs
 
 returns-2 : tie.Need-returns-2
 returns-2 c =
-    let a = c .before .before .before .before .before .before .before .before .args in
+    let start = c .before .before .before .before .before .before .before .before in
+    let a = start .args in
     let v = c .before .before .before .before .before .verdict .given in
-    from-start 32768 (spelled (listing-refused (a .verdict) (a .size) (a .directory) (v .0 .0) (v .1)) (c .before .before .put-refusal .ensures)) (omega arith) (c .before .before .before .before .before .before .before .before .pre .0)
+    from-start 32768 (spelled (listing-refused (a .verdict) (a .size) (a .directory) (v .0 .0) (v .1)) (c .before .before .put-refusal .ensures)) (omega arith) (start .pre .0)
 
 pub write-listing-spec : {M : Type 1} → statement M
 write-listing-spec =

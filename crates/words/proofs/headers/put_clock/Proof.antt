@@ -29,11 +29,12 @@ same-length c = search needs
 
 returns : tie.Need-returns
 returns c =
+    let start = c .before .before .before .before .before .before .before .before .before .before .before .before .before in
     spelled
-    (clock-put (c .before .before .before .before .before .before .before .before .before .before .before .before .before .args .header)
-    (word-kept (c .before .before .before .before .before .before .before .before .before .before .before .before .before .args .header .«sat_binary_time») (c .before .before .before .before .before .before .before .before .before .before .before .struct-told .given .1 .0 .1) (c .before .before .before .before .before .before .before .before .before .before .word-of .ensures))
-    (word-kept (c .before .before .before .before .before .before .before .before .before .before .before .before .before .args .header .«clock_step») (c .before .before .before .before .before .before .before .before .before .struct-told2 .given .1 .1 .0 .1) (c .before .before .before .before .before .before .before .before .word-of2 .ensures))
-    (word-kept (c .before .before .before .before .before .before .before .before .before .before .before .before .before .args .header .«leap_sign») (c .before .before .before .before .before .before .before .struct-told3 .given .1 .1 .1 .1 .0 .1) (c .before .before .before .before .before .before .word-of3 .ensures)))
+    (clock-put (start .args .header)
+    (word-kept (start .args .header .«sat_binary_time») (c .before .before .before .before .before .before .before .before .before .before .before .struct-told .given .1 .0 .1) (c .before .before .before .before .before .before .before .before .before .before .word-of .ensures))
+    (word-kept (start .args .header .«clock_step») (c .before .before .before .before .before .before .before .before .before .struct-told2 .given .1 .1 .0 .1) (c .before .before .before .before .before .before .before .before .word-of2 .ensures))
+    (word-kept (start .args .header .«leap_sign») (c .before .before .before .before .before .before .before .struct-told3 .given .1 .1 .1 .1 .0 .1) (c .before .before .before .before .before .before .word-of3 .ensures)))
     (c .before .before .put-words .ensures)
 
 pub put-clock-spec : {M : Type 1} → statement M

@@ -16,7 +16,9 @@ same-length : tie.Need-same-length
 same-length c = search needs
 
 returns : tie.Need-returns
-returns c = spelled (orbit-put (c .before .before .before .before .before .before .before .args .header) (c .before .before .before .before .before .struct-told .given .1 .0 .1) (c .before .before .before .before .before .struct-told .given .1 .1 .0 .1) (c .before .before .before .before .before .struct-told .given .1 .1 .1 .0 .1) (c .before .before .before .before .before .struct-told .given .1 .1 .1 .1 .0 .1) (c .before .before .before .before .before .struct-told .given .1 .1 .1 .1 .1 .0 .1) (c .before .before .before .before .before .struct-told .given .1 .1 .1 .1 .1 .1 .0 .1) (c .before .before .before .before .before .struct-told .given .1 .1 .1 .1 .1 .1 .1 .0 .1)) (c .before .before .put-numbers .ensures)
+returns c =
+    let told = c .before .before .before .before .before .struct-told .given in
+    spelled (orbit-put (c .before .before .before .before .before .before .before .args .header) (told .1 .0 .1) (told .1 .1 .0 .1) (told .1 .1 .1 .0 .1) (told .1 .1 .1 .1 .0 .1) (told .1 .1 .1 .1 .1 .0 .1) (told .1 .1 .1 .1 .1 .1 .0 .1) (told .1 .1 .1 .1 .1 .1 .1 .0 .1)) (c .before .before .put-numbers .ensures)
 
 pub put-orbit-spec : {M : Type 1} → statement M
 put-orbit-spec =

@@ -29,11 +29,12 @@ same-length c = search needs
 
 returns : tie.Need-returns
 returns c =
+    let start = c .before .before .before .before .before .before .before .before .before .before .before .before .before in
     spelled
-    (sensing-put (c .before .before .before .before .before .before .before .before .before .before .before .before .before .args .header)
-    (word-kept (c .before .before .before .before .before .before .before .before .before .before .before .before .before .args .header .«cycle») (c .before .before .before .before .before .before .before .before .before .before .struct-told .given .1 .1 .1 .0 .1) (c .before .before .before .before .before .before .before .before .before .word-of .ensures))
-    (word-kept (c .before .before .before .before .before .before .before .before .before .before .before .before .before .args .header .«rel_orbit») (c .before .before .before .before .before .before .before .before .struct-told2 .given .1 .1 .1 .1 .0 .1) (c .before .before .before .before .before .before .before .word-of2 .ensures))
-    (word-kept (c .before .before .before .before .before .before .before .before .before .before .before .before .before .args .header .«abs_orbit») (c .before .before .before .before .before .before .struct-told3 .given .1 .1 .1 .1 .1 .0 .1) (c .before .before .before .before .before .word-of3 .ensures)))
+    (sensing-put (start .args .header)
+    (word-kept (start .args .header .«cycle») (c .before .before .before .before .before .before .before .before .before .before .struct-told .given .1 .1 .1 .0 .1) (c .before .before .before .before .before .before .before .before .before .word-of .ensures))
+    (word-kept (start .args .header .«rel_orbit») (c .before .before .before .before .before .before .before .before .struct-told2 .given .1 .1 .1 .1 .0 .1) (c .before .before .before .before .before .before .before .word-of2 .ensures))
+    (word-kept (start .args .header .«abs_orbit») (c .before .before .before .before .before .before .struct-told3 .given .1 .1 .1 .1 .1 .0 .1) (c .before .before .before .before .before .word-of3 .ensures)))
     (c .before .before .put-words .ensures)
 
 pub put-sensing-spec : {M : Type 1} → statement M

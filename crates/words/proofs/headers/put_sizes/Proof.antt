@@ -35,13 +35,14 @@ same-length c = search needs
 
 returns : tie.Need-returns
 returns c =
+    let start = c .before .before .before .before .before .before .before .before .before .before .before .before .before .before .before .before .before in
     spelled
-    (sizes-put (c .before .before .before .before .before .before .before .before .before .before .before .before .before .before .before .before .before .args .header)
-    (word-kept (c .before .before .before .before .before .before .before .before .before .before .before .before .before .before .before .before .before .args .header .«tot_size») (c .before .before .before .before .before .before .before .before .before .before .before .before .before .before .struct-told .given .1 .0 .1) (c .before .before .before .before .before .before .before .before .before .before .before .before .before .word-of .ensures))
-    (word-kept (c .before .before .before .before .before .before .before .before .before .before .before .before .before .before .before .before .before .args .header .«sph_size») (c .before .before .before .before .before .before .before .before .before .before .before .before .struct-told2 .given .1 .1 .0 .1) (c .before .before .before .before .before .before .before .before .before .before .before .word-of2 .ensures))
-    (word-kept (c .before .before .before .before .before .before .before .before .before .before .before .before .before .before .before .before .before .args .header .«num_dsd») (c .before .before .before .before .before .before .before .before .before .before .struct-told3 .given .1 .1 .1 .0 .1) (c .before .before .before .before .before .before .before .before .before .word-of3 .ensures))
-    (word-kept (c .before .before .before .before .before .before .before .before .before .before .before .before .before .before .before .before .before .args .header .«dsd_size») (c .before .before .before .before .before .before .before .before .struct-told4 .given .1 .1 .1 .1 .0 .1) (c .before .before .before .before .before .before .before .word-of4 .ensures))
-    (word-kept (c .before .before .before .before .before .before .before .before .before .before .before .before .before .before .before .before .before .args .header .«num_data_sets») (c .before .before .before .before .before .before .struct-told5 .given .1 .1 .1 .1 .1 .0 .1) (c .before .before .before .before .before .word-of5 .ensures)))
+    (sizes-put (start .args .header)
+    (word-kept (start .args .header .«tot_size») (c .before .before .before .before .before .before .before .before .before .before .before .before .before .before .struct-told .given .1 .0 .1) (c .before .before .before .before .before .before .before .before .before .before .before .before .before .word-of .ensures))
+    (word-kept (start .args .header .«sph_size») (c .before .before .before .before .before .before .before .before .before .before .before .before .struct-told2 .given .1 .1 .0 .1) (c .before .before .before .before .before .before .before .before .before .before .before .word-of2 .ensures))
+    (word-kept (start .args .header .«num_dsd») (c .before .before .before .before .before .before .before .before .before .before .struct-told3 .given .1 .1 .1 .0 .1) (c .before .before .before .before .before .before .before .before .before .word-of3 .ensures))
+    (word-kept (start .args .header .«dsd_size») (c .before .before .before .before .before .before .before .before .struct-told4 .given .1 .1 .1 .1 .0 .1) (c .before .before .before .before .before .before .before .word-of4 .ensures))
+    (word-kept (start .args .header .«num_data_sets») (c .before .before .before .before .before .before .struct-told5 .given .1 .1 .1 .1 .1 .0 .1) (c .before .before .before .before .before .word-of5 .ensures)))
     (c .before .before .put-words .ensures)
 
 pub put-sizes-spec : {M : Type 1} → statement M
