@@ -7,12 +7,12 @@ use lib.IntN.{ℤ}
 use lib.Signed.{mag}
 use mir.Syntax.{w64}
 use mir.Val.{toZ, ofZ}
-use mir.Facts.{toZ-ofZ}
 use Rattle.values.specs.declared.Identity.{Identity}
 use Rattle.values.specs.declared.Sensing.{Sensing}
 use Rattle.values.specs.declared.Orbit.{Orbit}
 use Rattle.values.specs.declared.Clock.{Clock}
 use Rattle.values.specs.declared.Sizes.{Sizes}
+use Rattle.values.proofs.Values.{kept}
 use Rattle.words.specs.Words.{word}
 use Rattle.words.specs.Headers.{identityWords, sensingWords, orbitWords, clockWords, sizesWords}
 
@@ -26,9 +26,6 @@ back z = toZ w64 (ofZ w64 z)
 
 abbrev Small : ℤ → Type 0
 Small z = mag z < 2 ^ 63
-
-kept : {z : ℤ} → Small z → back z ≡ z
-kept h = toZ-ofZ {w = w64} (record { sfits = h })
 
 pub word-kept : (z : ℤ) {w : ℕ} → Small z → w ≡ word (back z) → w ≡ word z
 word-kept z h e = e ∙ ap word (kept h)
