@@ -128,14 +128,14 @@ map-same f g i (suc n) h = rw (h i (omega arith) (omega arith), map-same f g (su
 
 -- ---- listings
 
-pub accepted-same : (b : List ℕ) → verdict b ≡ accepted → listingOf (verdict b) (length b) (directoryOf (directory b)) ≡ listingFor (verdict b) (acceptedLines b (directory b))
+accepted-same : (b : List ℕ) → verdict b ≡ accepted → listingOf (verdict b) (length b) (directoryOf (directory b)) ≡ listingFor (verdict b) (acceptedLines b (directory b))
 unfolding listingOf listingFor acceptedText acceptedLines entryTexts directoryOf
 accepted-same b h =
     let good = sound b h in
     let ds = directory b in
     rw (h, map-same (entryTextAt (directoryOf ds)) (entryLine ds) 0 (length ds) (λ k l u. let m : k < length ds = omega arith in line-same ds k m (name-width b good) (good .typed k m) (good .numbers k m)))
 
-pub refused-same : (b : List ℕ) (n p e : ℕ) → verdict b ≡ refused n p e → listingOf (verdict b) (length b) noDirectory ≡ listingFor (verdict b) (acceptedLines b (directory b))
+refused-same : (b : List ℕ) (n p e : ℕ) → verdict b ≡ refused n p e → listingOf (verdict b) (length b) noDirectory ≡ listingFor (verdict b) (acceptedLines b (directory b))
 unfolding listingOf listingFor refusalText
 refused-same b n p e h = rw h
 

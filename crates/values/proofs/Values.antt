@@ -39,7 +39,7 @@ digits-most (x ∷ xs) m h = le-trans (digits-most xs (cond (eqb x 46) m (m * 10
         go false = omega (arith, h 0)
 
 -- a sign and at most eleven bytes
-pub twelve-fit : (xs : List ℕ) → length xs ≤ 12 → ((k : ℕ) → getD xs k 0 < 256) → numberOf xs .magnitude ≤ 9223372036854775807
+twelve-fit : (xs : List ℕ) → length xs ≤ 12 → ((k : ℕ) → getD xs k 0 < 256) → numberOf xs .magnitude ≤ 9223372036854775807
 unfolding numberOf
 twelve-fit [] l h = omega arith
 twelve-fit (x ∷ xs) l h =
@@ -61,7 +61,7 @@ module _ (b : List ℕ) (at width : ℕ) where
   pub number-fits : ((k : ℕ) → getD b k 0 < 256) → (12 < width → numberOf (part b at width) .magnitude ≤ 9223372036854775807) → numberOf (part b at width) .magnitude ≤ 9223372036854775807
   number-fits h long = ⊎-elim (λ l. long l) (λ l. twelve-fit (part b at width) (le-trans part-most l) (part-bytes h)) (lt-or-le 12 width)
 
-  pub held-fits : ((k : ℕ) → getD b k 0 < 256) → width ≤ 12 → numberIn b at width .magnitude ≤ 9223372036854775807
+  held-fits : ((k : ℕ) → getD b k 0 < 256) → width ≤ 12 → numberIn b at width .magnitude ≤ 9223372036854775807
   held-fits h l = magnitude-fits b at width .1 (number-fits h (λ m. absurd (omega arith)))
 
   pub held-true : ((k : ℕ) → getD b k 0 < 256) → width ≤ 12 → numberIn b at width .magnitude ≡ numberOf (part b at width) .magnitude

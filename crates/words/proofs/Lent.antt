@@ -2,14 +2,12 @@
 -- Assumes nothing.
 use Prim.Native.Nat.{ℕ, _≤_, _<_}
 use mathlib.Core.Bool.{true, false}
-use mathlib.Core.Path.{_≡_, _∙_}
-use mathlib.Core.List.{List, _++_}
-use native.Mathlib.Omega.{arith}
-use native.Mathlib.Nat.{zero-add}
-use lib.ListN.{length, drop}
-use lib.Seq.{sets-eq}
+use mathlib.Core.Path.{_≡_}
+use mathlib.Core.List.{List}
+use lib.ListN.{length}
 use borrow.Author.Tests.{le-leb, lt-leb}
 use Rattle.writing.specs.Put.{Put}
+use Rattle.writing.proofs.Puts.{at-first}
 use Rattle.words.specs.Lent.{longEnough, told, filled, OneRoom, TwoRooms}
 
 module _ {A : Type 0} (answer old : List A) where
@@ -21,17 +19,13 @@ module _ {A : Type 0} (answer old : List A) where
   unfolding longEnough
   short h = lt-leb (length answer) (length old) h
 
-  -- an answer put from the first place on
-  put-first : {w r : ℕ} {new : List A} → Put w answer old new 0 r → length answer ≤ length old → new ≡ answer ++ drop (length answer) old
-  put-first p h = p .written ∙ sets-eq answer old 0 (omega (arith, h)) ∙ rw zero-add
-
   pub one-short : length old < length answer → OneRoom answer old old 1
   unfolding told filled
   one-short h = record { returned = rw (short h); written = rw (short h) }
 
   pub one-written : {w r : ℕ} {new : List A} → Put w answer old new 0 r → length answer ≤ length old → OneRoom answer old new 0
   unfolding told filled
-  one-written p h = record { returned = rw (enough h); written = rw (enough h) (put-first p h) }
+  one-written p h = record { returned = rw (enough h); written = rw (enough h) (at-first p h) }
 
 module _ {A B : Type 0} (answer old : List A) (answer′ old′ : List B) where
   pub first-short : length old < length answer → TwoRooms answer old old answer′ old′ old′ 1
@@ -47,4 +41,4 @@ module _ {A B : Type 0} (answer old : List A) (answer′ old′ : List B) where
   both-written p q g h =
       let d = enough answer old g in
       let e = enough answer′ old′ h in
-      record { returned = rw (d, e); written = rw (d, e) (put-first answer old p g); written′ = rw (d, e) (put-first answer′ old′ q h) }
+      record { returned = rw (d, e); written = rw (d, e) (at-first p g); written′ = rw (d, e) (at-first q h) }
