@@ -19,15 +19,16 @@ module _ {A : Type 0} (answer old : List A) where
   unfolding longEnough
   short h = lt-leb (length answer) (length old) h
 
+module _ {A : Type 0} {answer old : List A} where
   pub one-short : length old < length answer → OneRoom answer old old 1
   unfolding told filled
-  one-short h = record { returned = rw (short h); written = rw (short h) }
+  one-short h = record { returned = rw (short answer old h); written = rw (short answer old h) }
 
   pub one-written : {w r : ℕ} {new : List A} → Put w answer old new 0 r → length answer ≤ length old → OneRoom answer old new 0
   unfolding told filled
-  one-written p h = record { returned = rw (enough h); written = rw (enough h) (at-first p h) }
+  one-written p h = record { returned = rw (enough answer old h); written = rw (enough answer old h) (at-first p h) }
 
-module _ {A B : Type 0} (answer old : List A) (answer′ old′ : List B) where
+module _ {A B : Type 0} {answer old : List A} {answer′ old′ : List B} where
   pub first-short : length old < length answer → TwoRooms answer old old answer′ old′ old′ 1
   unfolding told filled
   first-short h = let e = short answer old h in record { returned = rw e; written = rw e; written′ = rw e }

@@ -11,14 +11,10 @@ use Rattle.host.proofs.ambrothel_point_at.Statement.{statement}
 use Rattle.host.proofs.ambrothel_point_at.Tie as tie
 
 returns : tie.Need-returns
-returns c =
-    let start = c .before .before .before .before in
-    first-short _ (start .args .words .now) _ (start .args .point .now) (rw point-three (omega arith))
+returns c = first-short (rw point-three (omega arith))
 
 returns-2 : tie.Need-returns-2
-returns-2 c =
-    let start = c .before .before .before .before .before in
-    second-short _ (start .args .words .now) _ (start .args .point .now) (rw point-three (omega arith)) (rw doubles-three (omega arith))
+returns-2 c = second-short (rw point-three (omega arith)) (rw doubles-three (omega arith))
 
 point-at-requires : tie.Need-point-at-requires
 point-at-requires c κs = search needs
@@ -36,10 +32,8 @@ same-length-2 : tie.Need-same-length-2
 same-length-2 c = search needs
 
 returns-3 : tie.Need-returns-3
-returns-3 c =
-    let start = c .before .before .before .before .before .before .before .before .before .before .before .before .before .before in
-    let asked = c .before .before .before .before .before .before .before .before .point-at in
-    both-written _ (start .args .words .now) _ (start .args .point .now) (spelled (ap pointWords (asked .ensures)) (c .before .before .before .before .before .before .put-point .ensures)) (spelled (ap pointDoubles (asked .ensures)) (c .before .before .put-doubles .ensures)) (rw point-three (omega arith)) (rw doubles-three (omega arith))
+returns-3 c = let asked = c .before .before .before .before .before .before .before .before .point-at in
+    both-written (spelled (ap pointWords (asked .ensures)) (c .before .before .before .before .before .before .put-point .ensures)) (spelled (ap pointDoubles (asked .ensures)) (c .before .before .put-doubles .ensures)) (rw point-three (omega arith)) (rw doubles-three (omega arith))
 
 pub ambrothel-point-at-spec : {M : Type 1} → statement M
 ambrothel-point-at-spec =

@@ -7,14 +7,10 @@ use Rattle.words.proofs.rooms.put_part.Statement.{statement}
 use Rattle.words.proofs.rooms.put_part.Tie as tie
 
 returns : tie.Need-returns
-returns c =
-    let start = c .before .before .before .before in
-    first-short _ (start .args .words .now) _ (start .args .bytes .now) (omega arith)
+returns c = first-short (omega arith)
 
 returns-2 : tie.Need-returns-2
-returns-2 c =
-    let start = c .before .before .before .before .before in
-    second-short _ (start .args .words .now) _ (start .args .bytes .now) (omega arith) (omega arith)
+returns-2 c = second-short (omega arith) (omega arith)
 
 slice-aggregate-put-words : tie.Need-slice-aggregate-put-words
 slice-aggregate-put-words c = search needs
@@ -32,9 +28,7 @@ same-length-2 : tie.Need-same-length-2
 same-length-2 c = search needs
 
 returns-3 : tie.Need-returns-3
-returns-3 c =
-    let start = c .before .before .before .before .before .before .before .before .before .before .before .before .before .before in
-    both-written _ (start .args .words .now) _ (start .args .bytes .now) (c .before .before .before .before .before .before .put-words .ensures) (c .before .before .put-text .ensures) (omega arith) (omega arith)
+returns-3 c = both-written (c .before .before .before .before .before .before .put-words .ensures) (c .before .before .put-text .ensures) (omega arith) (omega arith)
 
 pub put-part-spec : {M : Type 1} → statement M
 put-part-spec =

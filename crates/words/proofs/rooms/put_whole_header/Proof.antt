@@ -19,14 +19,12 @@ texts-long : (s : tie.Start) → length (headerTexts (s .args .header)) ≡ 289
 texts-long s = let g = s .good .1 .0 .1 .1 in header-texts (s .args .header) (simp length-map at (g .0 .1 .1 .0 .1 .0 .1)) (simp length-map at (g .0 .1 .1 .1 .1 .0 .1 .0 .1)) (simp length-map at (g .0 .1 .1 .1 .1 .1 .0 .1 .0 .1)) (simp length-map at (g .0 .1 .1 .1 .1 .1 .1 .0 .1 .0 .1)) (simp length-map at (g .0 .1 .1 .1 .1 .1 .1 .1 .0 .1 .0 .1)) (simp length-map at (g .0 .1 .1 .1 .1 .1 .1 .1 .1 .0 .1 .0 .1)) (simp length-map at (g .1 .0 .1 .1 .0 .1 .0 .1)) (simp length-map at (g .1 .0 .1 .1 .1 .0 .1 .0 .1)) (simp length-map at (g .1 .1 .0 .1 .1 .0 .1 .0 .1)) (simp length-map at (g .1 .1 .0 .1 .1 .1 .1 .1 .1 .1 .1 .1 .1 .0 .1 .0 .1)) (simp length-map at (g .1 .1 .1 .0 .1 .1 .0 .1 .0 .1)) (simp length-map at (g .1 .1 .1 .0 .1 .1 .1 .1 .1 .0 .1 .0 .1))
 
 returns : tie.Need-returns
-returns c =
-    let start = c .before .before .before in
-    first-short _ (start .args .words .now) _ (start .args .texts .now) (rw (words-long start) (omega arith))
+returns c = first-short (rw (words-long (c .before .before .before)) (omega arith))
 
 returns-2 : tie.Need-returns-2
 returns-2 c =
     let start = c .before .before .before .before in
-    second-short _ (start .args .words .now) _ (start .args .texts .now) (rw (words-long start) (omega arith)) (rw (texts-long start) (omega arith))
+    second-short (rw (words-long start) (omega arith)) (rw (texts-long start) (omega arith))
 
 put-header-requires : tie.Need-put-header-requires
 put-header-requires c κs = search needs
@@ -43,7 +41,7 @@ same-length-2 c = search needs
 returns-3 : tie.Need-returns-3
 returns-3 c =
     let start = c .before .before .before .before .before .before .before .before .before .before .before .before in
-    both-written _ (start .args .words .now) _ (start .args .texts .now) (c .before .before .before .before .before .before .put-header .ensures) (c .before .before .put-header-texts .ensures) (rw (words-long start) (omega (arith, c .before .before .before .before .before .before .before .before .before .if1 .left))) (rw (texts-long start) (omega (arith, c .before .before .before .before .before .before .before .before .if2 .left)))
+    both-written (c .before .before .before .before .before .before .put-header .ensures) (c .before .before .put-header-texts .ensures) (rw (words-long start) (omega (arith, c .before .before .before .before .before .before .before .before .before .if1 .left))) (rw (texts-long start) (omega (arith, c .before .before .before .before .before .before .before .before .if2 .left)))
 
 pub put-whole-header-spec : {M : Type 1} → statement M
 put-whole-header-spec =
