@@ -1,5 +1,5 @@
 -- Theorems over the promises of the calls for C and Rust: word 0 is 0 exactly where nothing is refused, of the answer and, where a call returns 0,
--- of the room lent. That two results are equal is `one-result` and `two-results` of rooms, for each call.
+-- of the room lent. That two results are equal is `one-result` and `two-results` of words, for each call.
 -- Assumes nothing.
 use Prim.Native.Nat.{ℕ, _<_}
 use mathlib.Core.List.{List, [], _++_, append-nil}
@@ -17,11 +17,13 @@ use Rattle.layout.specs.Fields.{fieldReply, pointReply}
 use Rattle.layout.proofs.Laws.{accepted≢refused}
 use Rattle.layout.proofs.Replies.{refusal≢is, Numbered, NumberedReply}
 use Rattle.product.proofs.Numbers.{verdict-number, sph-number, record-number, field-number, point-number}
-use Rattle.words.specs.Words.{verdictWords, placeWords, fieldWords, pointWords, pointDoubles}
-use Rattle.tables.specs.Tables.{headerWords, headerTexts, directoryWords, directoryTexts}
-use Rattle.rooms.specs.Lent.{OneRoom, TwoRooms}
-use Rattle.rooms.proofs.Lengths.{verdict-three, place-five, field-seven, point-three}
-use Rattle.rooms.proofs.Results.{room-word, first-room-word}
+use Rattle.words.specs.Words.{verdictWords, placeWords, fieldWords, pointWords}
+use Rattle.words.specs.Headers.{headerWords, directoryWords}
+use Rattle.words.specs.Lent.{OneRoom, TwoRooms}
+use Rattle.words.specs.Rooms.{PointRooms}
+use Rattle.host.specs.Calls.{DirectoryCall, HeaderCall}
+use Rattle.words.proofs.Lengths.{verdict-three, place-five, field-seven, point-three}
+use Rattle.words.proofs.Results.{room-word, first-room-word}
 
 -- ---- the first word of an answer, `d` where it has none
 
@@ -95,12 +97,12 @@ module _ (b : List ℕ) (d : ℕ) (words words′ : List ℕ) where
 
   module _ (texts texts′ : List ℕ) where
     -- the same of the room for the directory
-    pub directory-word : TwoRooms (directoryWords (verdict b) (directoryFor (verdict b) b)) words words′ (directoryTexts (directoryFor (verdict b) b)) texts texts′ 0 → (getD words′ 0 d ≡ 0) ↔ (verdict b ≡ accepted)
+    pub directory-word : DirectoryCall b words words′ texts texts′ 0 → (getD words′ 0 d ≡ 0) ↔ (verdict b ≡ accepted)
     unfolding directoryWords
     directory-word = in-first d (directoryWords (verdict b) (directoryFor (verdict b) b)) words words′ (three-first (verdict b) _) (directory-zero b d)
 
     -- and of the room for the header values
-    pub header-word : TwoRooms (headerWords (verdict b) (headerFor (verdict b) b)) words words′ (headerTexts (headerFor (verdict b) b)) texts texts′ 0 → (getD words′ 0 d ≡ 0) ↔ (verdict b ≡ accepted)
+    pub header-word : HeaderCall b words words′ texts texts′ 0 → (getD words′ 0 d ≡ 0) ↔ (verdict b ≡ accepted)
     unfolding headerWords
     header-word = in-first d (headerWords (verdict b) (headerFor (verdict b) b)) words words′ (three-first (verdict b) _) (header-zero b d)
 
@@ -118,5 +120,5 @@ module _ (b : List ℕ) (d : ℕ) (words words′ : List ℕ) where
     field-word off kind = in-room d (fieldWords (fieldReply b i j off kind)) words words′ (rw (field-seven (fieldReply b i j off kind)) (omega arith)) (field-zero b d i j off kind)
 
     -- where there is a point
-    pub point-word : (lat lon alt : ℕ) (point point′ : List Float) → TwoRooms (pointWords (pointReply b i j lat lon alt)) words words′ (pointDoubles (pointReply b i j lat lon alt)) point point′ 0 → (getD words′ 0 d ≡ 0) ↔ Given (pointReply b i j lat lon alt)
+    pub point-word : (lat lon alt : ℕ) (point point′ : List Float) → PointRooms (pointReply b i j lat lon alt) words words′ point point′ 0 → (getD words′ 0 d ≡ 0) ↔ Given (pointReply b i j lat lon alt)
     point-word lat lon alt point point′ = in-first d (pointWords (pointReply b i j lat lon alt)) words words′ (rw (point-three (pointReply b i j lat lon alt)) (omega arith)) (point-zero b d i j lat lon alt)

@@ -1,25 +1,22 @@
 // The reader for C and Rust: every public call, its answer written into rooms that the host lends. `include/ambrothel.h` declares them.
 // A room too short for the answer returns 1, and nothing is written.
-use rooms::ROOM_TOO_SHORT;
-use rooms::WRITTEN;
-use rooms::put_part;
-use rooms::put_whole_directory;
-use rooms::put_whole_header;
+use words::ROOM_TOO_SHORT;
+use words::WRITTEN;
 use words::put_doubles;
 use words::put_field;
+use words::put_part;
 use words::put_place;
 use words::put_point;
 use words::put_verdict;
-ghost use mathlib.Core.List.{[], _∷_};
-ghost use lib.ListN.{length};
+use words::put_whole_directory;
+use words::put_whole_header;
 ghost use Rattle.layout.specs.Rules.{verdict};
-ghost use Rattle.layout.specs.Answers.{directoryFor};
-ghost use Rattle.values.specs.Header.{headerFor};
 ghost use Rattle.layout.specs.Records.{sphPlace, recordPlace, partOf};
 ghost use Rattle.layout.specs.Fields.{fieldReply, pointReply};
-ghost use Rattle.words.specs.Words.{verdictWords, placeWords, fieldWords, pointWords, pointDoubles};
-ghost use Rattle.tables.specs.Tables.{headerWords, headerTexts, directoryWords, directoryTexts};
-ghost use Rattle.rooms.specs.Lent.{OneRoom, TwoRooms};
+ghost use Rattle.words.specs.Words.{verdictWords, placeWords, fieldWords};
+ghost use Rattle.words.specs.Lent.{OneRoom};
+ghost use Rattle.words.specs.Rooms.{PartRooms, PointRooms};
+ghost use Rattle.host.specs.Calls.{DirectoryCall, HeaderCall};
 
 #[no_mangle]
 pub extern "C" fn ambrothel_judge(p: &[u8], words: &mut [u64]) -> u32
@@ -34,7 +31,7 @@ pub extern "C" fn ambrothel_judge(p: &[u8], words: &mut [u64]) -> u32
 
 #[no_mangle]
 pub extern "C" fn ambrothel_open_directory(p: &[u8], words: &mut [u64], texts: &mut [u8]) -> u32
-    ensures { λ r. ⌜ TwoRooms (directoryWords (verdict (now (p .entry))) (directoryFor (verdict (now (p .entry))) (now (p .entry)))) (now (words .entry)) (now (words .exit)) (directoryTexts (directoryFor (verdict (now (p .entry))) (now (p .entry)))) (now (texts .entry)) (now (texts .exit)) r ⌝ }
+    ensures { λ r. ⌜ DirectoryCall (now (p .entry)) (now (words .entry)) (now (words .exit)) (now (texts .entry)) (now (texts .exit)) r ⌝ }
 {
     let answer = product::open_directory(p);
     let verdict = answer.verdict;
@@ -44,7 +41,7 @@ pub extern "C" fn ambrothel_open_directory(p: &[u8], words: &mut [u64], texts: &
 
 #[no_mangle]
 pub extern "C" fn ambrothel_header_values(p: &[u8], words: &mut [u64], texts: &mut [u8]) -> u32
-    ensures { λ r. ⌜ TwoRooms (headerWords (verdict (now (p .entry))) (headerFor (verdict (now (p .entry))) (now (p .entry)))) (now (words .entry)) (now (words .exit)) (headerTexts (headerFor (verdict (now (p .entry))) (now (p .entry)))) (now (texts .entry)) (now (texts .exit)) r ⌝ }
+    ensures { λ r. ⌜ HeaderCall (now (p .entry)) (now (words .entry)) (now (words .exit)) (now (texts .entry)) (now (texts .exit)) r ⌝ }
 {
     let answer = product::header_values(p);
     let verdict = answer.verdict;
@@ -65,7 +62,7 @@ pub extern "C" fn ambrothel_sph_place(p: &[u8], words: &mut [u64]) -> u32
 
 #[no_mangle]
 pub extern "C" fn ambrothel_sph_part(p: &[u8], words: &mut [u64], bytes: &mut [u8]) -> u32
-    ensures { λ r. ⌜ TwoRooms (length (partOf (now (p .entry)) (sphPlace (now (p .entry)))) ∷ []) (now (words .entry)) (now (words .exit)) (partOf (now (p .entry)) (sphPlace (now (p .entry)))) (now (bytes .entry)) (now (bytes .exit)) r ⌝ }
+    ensures { λ r. ⌜ PartRooms (partOf (now (p .entry)) (sphPlace (now (p .entry)))) (now (words .entry)) (now (words .exit)) (now (bytes .entry)) (now (bytes .exit)) r ⌝ }
 {
     put_part(product::sph_part(p), words, bytes)
 }
@@ -94,7 +91,7 @@ pub extern "C" fn ambrothel_record_part(
     words: &mut [u64],
     bytes: &mut [u8],
 ) -> u32
-    ensures { λ r. ⌜ TwoRooms (length (partOf (now (p .entry)) (recordPlace (now (p .entry)) entry asked)) ∷ []) (now (words .entry)) (now (words .exit)) (partOf (now (p .entry)) (recordPlace (now (p .entry)) entry asked)) (now (bytes .entry)) (now (bytes .exit)) r ⌝ }
+    ensures { λ r. ⌜ PartRooms (partOf (now (p .entry)) (recordPlace (now (p .entry)) entry asked)) (now (words .entry)) (now (words .exit)) (now (bytes .entry)) (now (bytes .exit)) r ⌝ }
 {
     put_part(product::record_part(p, entry, asked), words, bytes)
 }
@@ -128,7 +125,7 @@ pub extern "C" fn ambrothel_point_at(
     words: &mut [u64],
     point: &mut [f64],
 ) -> u32
-    ensures { λ r. ⌜ TwoRooms (pointWords (pointReply (now (p .entry)) entry asked latitude longitude altitude)) (now (words .entry)) (now (words .exit)) (pointDoubles (pointReply (now (p .entry)) entry asked latitude longitude altitude)) (now (point .entry)) (now (point .exit)) r ⌝ }
+    ensures { λ r. ⌜ PointRooms (pointReply (now (p .entry)) entry asked latitude longitude altitude) (now (words .entry)) (now (words .exit)) (now (point .entry)) (now (point .exit)) r ⌝ }
 {
     if words.len() < 3 {
         return ROOM_TOO_SHORT;

@@ -6,6 +6,6 @@ fn main() {
     let mut input = [0u8; 65537];
     let length = io::read_full(STDIN_FILENO, &mut input);
     let mut out = [0u8; 32768];
-    let written = lister::list_product(&input[..length], &mut out);
+    let written = listing_text::list_product(&input[..length], &mut out);
     io::write_all(STDOUT_FILENO, &out[..written]);
 }

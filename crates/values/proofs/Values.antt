@@ -1,4 +1,4 @@
--- Laws of the header values: a copy byte by byte, numbers that fit, and where each value stands.
+-- Laws of the header values: numbers that fit, and where each value stands.
 -- Assumes nothing.
 use Prim.Native.Nat.{ℕ, suc, _+_, _*_, _-_, _^_, _≤_, _<_}
 use mathlib.Core.Bool.{Bool, true, false, cond}
@@ -9,44 +9,17 @@ use native.Mathlib.Nat.{add-zero, le-trans, mul-assoc, pow-succ', mul-le-mul-rig
 use native.Mathlib.Omega.{arith}
 use lib.Dec.{eqb}
 use lib.IntN.{ℤ}
-use lib.ListN.{length, getD, set, take, drop, length-take, length-drop, List·getD-eq-default}
-use lib.Seq.{getD-set-same, getD-set-other, getD-take, getD-drop, ext-getD, length-take-le}
+use lib.ListN.{length, getD, take, drop, length-take, List·getD-eq-default}
+use lib.Seq.{getD-take, getD-drop}
 use lib.Signed.{mag}
 use mir.Syntax.{w64}
 use mir.Val.{toZ, ofZ}
 use mir.Facts.{toZ-ofZ}
-use borrow.Author.Count.{below-more}
 use Rattle.layout.specs.Bytes.{part, byteAt}
 use Rattle.layout.specs.Text.{digits, numberOf}
 use Rattle.layout.proofs.Laws.{lt-or-le}
 use Rattle.text.specs.Numbers.{numberIn}
 use Rattle.text.proofs.Laws.{magnitude-fits, magnitude-true}
-
--- ---- a copy, byte by byte
-
-module _ (p : List ℕ) (at : ℕ) where
-  pub copied-more :
-      (d : List ℕ) (i : ℕ)
-      → i < length d
-      → ((k : ℕ) → k < i → getD d k 0 ≡ getD p (at + k) 0)
-      → (k : ℕ)
-      → k < i + 1
-      → getD (set d i (getD p (at + i) 0)) k 0 ≡ getD p (at + k) 0
-  copied-more d i h all =
-      below-more (λ k. getD (set d i (getD p (at + i) 0)) k 0 ≡ getD p (at + k) 0) i
-      (λ k l. getD-set-other d i k (getD p (at + i) 0) 0 (λ e. omega arith) ∙ all k l)
-      (getD-set-same d i (getD p (at + i) 0) 0 h)
-
-  pub copied-all :
-      (d : List ℕ) (n : ℕ)
-      → length d ≡ n
-      → at + n ≤ length p
-      → ((k : ℕ) → k < n → getD d k 0 ≡ getD p (at + k) 0)
-      → d ≡ part p at n
-  unfolding part
-  copied-all d n e h all =
-      ext-getD 0 d (take n (drop at p)) (e ∙ sym (length-take-le n (drop at p) (omega (arith, length-drop at p))))
-      (λ k l. all k (omega arith) ∙ sym (getD-take n (drop at p) k 0 (omega arith) ∙ getD-drop at p k 0))
 
 -- ---- numbers that fit
 
@@ -66,7 +39,7 @@ digits-most (x ∷ xs) m h = le-trans (digits-most xs (cond (eqb x 46) m (m * 10
         go false = omega (arith, h 0)
 
 -- a sign and at most eleven bytes
-pub twelve-fit : (xs : List ℕ) → length xs ≤ 12 → ((k : ℕ) → getD xs k 0 < 256) → numberOf xs .magnitude ≤ 9223372036854775807
+twelve-fit : (xs : List ℕ) → length xs ≤ 12 → ((k : ℕ) → getD xs k 0 < 256) → numberOf xs .magnitude ≤ 9223372036854775807
 unfolding numberOf
 twelve-fit [] l h = omega arith
 twelve-fit (x ∷ xs) l h =
@@ -88,7 +61,7 @@ module _ (b : List ℕ) (at width : ℕ) where
   pub number-fits : ((k : ℕ) → getD b k 0 < 256) → (12 < width → numberOf (part b at width) .magnitude ≤ 9223372036854775807) → numberOf (part b at width) .magnitude ≤ 9223372036854775807
   number-fits h long = ⊎-elim (λ l. long l) (λ l. twelve-fit (part b at width) (le-trans part-most l) (part-bytes h)) (lt-or-le 12 width)
 
-  pub held-fits : ((k : ℕ) → getD b k 0 < 256) → width ≤ 12 → numberIn b at width .magnitude ≤ 9223372036854775807
+  held-fits : ((k : ℕ) → getD b k 0 < 256) → width ≤ 12 → numberIn b at width .magnitude ≤ 9223372036854775807
   held-fits h l = magnitude-fits b at width .1 (number-fits h (λ m. absurd (omega arith)))
 
   pub held-true : ((k : ℕ) → getD b k 0 < 256) → width ≤ 12 → numberIn b at width .magnitude ≡ numberOf (part b at width) .magnitude

@@ -8,6 +8,7 @@ ghost use Rattle.layout.specs.Lines.{sizeOfMph};
 ghost use Rattle.layout.specs.Entries.{largestSigned, totSize};
 ghost use Rattle.values.specs.Header.{headerOf, noHeader};
 use layout::Verdict;
+use writing::put_text;
 
 // The values of the main header, in the order of its lines.
 pub struct Identity {
@@ -156,11 +157,8 @@ fn fill(p: &[u8], at: usize, d: &mut [u8])
     requires { ⌜ at + length (now d) ≤ length (now p) ⌝ }
     ensures { λ r. ⌜ now (d .exit) ≡ part (now (p .entry)) at (length (now (d .entry))) ⌝ }
 {
-    let mut i = 0;
-    while i < d.len() {
-        d[i] = p[at + i];
-        i += 1;
-    }
+    let end = at + d.len();
+    put_text(d, 0, &p[at..end]);
 }
 
 // The texts of the seven lengths that the main header has.

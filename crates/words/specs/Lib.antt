@@ -1,1 +1,4 @@
 pub mod Words
+pub mod Headers
+pub mod Lent
+pub mod Rooms

@@ -1,11 +1,19 @@
-// The answers of the reader as a host gets them: words of 64 bits and doubles, each put into a lent room from a place on. The main header and the
-// directory are put by `tables`.
+// The answers of the reader as a host gets them: words of 64 bits, doubles and texts, put into lent rooms. Here the words and doubles of all answers
+// but two; `headers` has the main header and the directory, `rooms` what is put whole into two rooms.
+mod headers;
+mod rooms;
+
 use layout::Field;
 use layout::FieldAnswer;
 use layout::Place;
 use layout::PointAnswer;
 use layout::Refusal;
 use layout::Verdict;
+pub use rooms::ROOM_TOO_SHORT;
+pub use rooms::WRITTEN;
+pub use rooms::put_part;
+pub use rooms::put_whole_directory;
+pub use rooms::put_whole_header;
 use writing::magnitude;
 ghost use mathlib.Core.Path.{_≡_};
 ghost use mathlib.Core.List.{_∷_, [], map};
@@ -16,7 +24,7 @@ ghost use Rattle.writing.specs.Put.{Put};
 ghost use Rattle.words.specs.Words.{word, verdictWords, placeWords, valueWords, fieldWords, pointWords, pointDoubles};
 
 // Two's complement.
-pub fn word_of(number: i64) -> u64
+fn word_of(number: i64) -> u64
     ensures { λ r. ⌜ r ≡ word number ⌝ }
 {
     if number < 0 {
@@ -31,7 +39,7 @@ fn wide(byte: u8) -> u64
     byte as u64
 }
 
-pub fn put_words(room: &mut [u64], at: usize, words: &[u64]) -> usize
+fn put_words(room: &mut [u64], at: usize, words: &[u64]) -> usize
     requires { ⌜ at + length (now words) ≤ length (now room) ⌝ }
     ensures { λ r. ⌜ Put (length (now (words .entry))) (now (words .entry)) (now (room .entry)) (now (room .exit)) at r ⌝ }
 {
@@ -56,7 +64,7 @@ pub fn put_bytes(room: &mut [u64], at: usize, bytes: &[u8]) -> usize
     at + bytes.len()
 }
 
-pub fn put_numbers(room: &mut [u64], at: usize, numbers: &[i64]) -> usize
+fn put_numbers(room: &mut [u64], at: usize, numbers: &[i64]) -> usize
     requires { ⌜ at + length (now numbers) ≤ length (now room) ⌝ }
     ensures { λ r. ⌜ Put (length (now (numbers .entry))) (map word (now (numbers .entry))) (now (room .entry)) (now (room .exit)) at r ⌝ }
 {

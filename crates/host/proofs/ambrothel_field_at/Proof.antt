@@ -4,14 +4,14 @@ use mathlib.Core.Path.{ap}
 use native.Mathlib.Omega.{arith}
 use Rattle.words.specs.Words.{fieldWords}
 use Rattle.writing.proofs.Puts.{spelled}
-use Rattle.rooms.proofs.Rooms.{one-short, one-written}
-use Rattle.rooms.proofs.Lengths.{field-seven}
+use Rattle.words.proofs.Lent.{one-short, one-written}
+use Rattle.words.proofs.Lengths.{field-seven}
 use borrow.Author.Needs.{needs}
 use Rattle.host.proofs.ambrothel_field_at.Statement.{statement}
 use Rattle.host.proofs.ambrothel_field_at.Tie as tie
 
 returns : tie.Need-returns
-returns c = one-short _ (c .before .before .before .args .words .now) (rw field-seven (omega arith))
+returns c = one-short (rw field-seven (omega arith))
 
 field-at-requires : tie.Need-field-at-requires
 field-at-requires c κs = search needs
@@ -23,7 +23,7 @@ same-length : tie.Need-same-length
 same-length c = search needs
 
 returns-2 : tie.Need-returns-2
-returns-2 c = one-written _ (c .before .before .before .before .before .before .before .before .args .words .now) (spelled (ap fieldWords (c .before .before .before .field-at .ensures)) (c .before .before .put-field .ensures)) (rw field-seven (omega arith))
+returns-2 c = one-written (spelled (ap fieldWords (c .before .before .before .field-at .ensures)) (c .before .before .put-field .ensures)) (rw field-seven (omega arith))
 
 pub ambrothel-field-at-spec : {M : Type 1} → statement M
 ambrothel-field-at-spec =

@@ -17,7 +17,9 @@ same-length-2 : tie.Need-same-length-2
 same-length-2 c = search needs
 
 returns : tie.Need-returns
-returns c = rw (← (c .before .before .before .before .before .before .before .before .header-values .ensures .1), ← (c .before .before .before .before .before .before .before .before .header-values .ensures .0)) (c .before .before .before .before .put-whole-header .ensures)
+returns c =
+    let answered = c .before .before .before .before .before .before .before .before .header-values in
+    rw (← (answered .ensures .1), ← (answered .ensures .0)) (c .before .before .before .before .put-whole-header .ensures)
 
 pub ambrothel-header-values-spec : {M : Type 1} → statement M
 ambrothel-header-values-spec =

@@ -4,14 +4,14 @@ use mathlib.Core.Path.{ap}
 use native.Mathlib.Omega.{arith}
 use Rattle.words.specs.Words.{verdictWords}
 use Rattle.writing.proofs.Puts.{spelled}
-use Rattle.rooms.proofs.Rooms.{one-short, one-written}
-use Rattle.rooms.proofs.Lengths.{verdict-three}
+use Rattle.words.proofs.Lent.{one-short, one-written}
+use Rattle.words.proofs.Lengths.{verdict-three}
 use borrow.Author.Needs.{needs}
 use Rattle.host.proofs.ambrothel_judge.Statement.{statement}
 use Rattle.host.proofs.ambrothel_judge.Tie as tie
 
 returns : tie.Need-returns
-returns c = one-short _ (c .before .before .before .args .words .now) (rw verdict-three (omega arith))
+returns c = one-short (rw verdict-three (omega arith))
 
 judge-requires : tie.Need-judge-requires
 judge-requires c κs = search needs
@@ -23,7 +23,7 @@ same-length : tie.Need-same-length
 same-length c = search needs
 
 returns-2 : tie.Need-returns-2
-returns-2 c = one-written _ (c .before .before .before .before .before .before .before .before .args .words .now) (spelled (ap verdictWords (c .before .before .before .judge .ensures)) (c .before .before .put-verdict .ensures)) (rw verdict-three (omega arith))
+returns-2 c = one-written (spelled (ap verdictWords (c .before .before .before .judge .ensures)) (c .before .before .put-verdict .ensures)) (rw verdict-three (omega arith))
 
 pub ambrothel-judge-spec : {M : Type 1} → statement M
 ambrothel-judge-spec =

@@ -17,7 +17,9 @@ same-length-2 : tie.Need-same-length-2
 same-length-2 c = search needs
 
 returns : tie.Need-returns
-returns c = rw (← (c .before .before .before .before .before .before .before .before .open-directory .ensures .1), ← (c .before .before .before .before .before .before .before .before .open-directory .ensures .0)) (c .before .before .before .before .put-whole-directory .ensures)
+returns c =
+    let opened = c .before .before .before .before .before .before .before .before .open-directory in
+    rw (← (opened .ensures .1), ← (opened .ensures .0)) (c .before .before .before .before .put-whole-directory .ensures)
 
 pub ambrothel-open-directory-spec : {M : Type 1} → statement M
 ambrothel-open-directory-spec =

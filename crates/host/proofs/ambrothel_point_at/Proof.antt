@@ -4,17 +4,17 @@ use mathlib.Core.Path.{ap}
 use native.Mathlib.Omega.{arith}
 use Rattle.words.specs.Words.{pointWords, pointDoubles}
 use Rattle.writing.proofs.Puts.{spelled}
-use Rattle.rooms.proofs.Rooms.{first-short, second-short, both-written}
-use Rattle.rooms.proofs.Lengths.{point-three, doubles-three}
+use Rattle.words.proofs.Lent.{first-short, second-short, both-written}
+use Rattle.words.proofs.Lengths.{point-three, doubles-three}
 use borrow.Author.Needs.{needs}
 use Rattle.host.proofs.ambrothel_point_at.Statement.{statement}
 use Rattle.host.proofs.ambrothel_point_at.Tie as tie
 
 returns : tie.Need-returns
-returns c = first-short _ (c .before .before .before .before .args .words .now) _ (c .before .before .before .before .args .point .now) (rw point-three (omega arith))
+returns c = first-short (rw point-three (omega arith))
 
 returns-2 : tie.Need-returns-2
-returns-2 c = second-short _ (c .before .before .before .before .before .args .words .now) _ (c .before .before .before .before .before .args .point .now) (rw point-three (omega arith)) (rw doubles-three (omega arith))
+returns-2 c = second-short (rw point-three (omega arith)) (rw doubles-three (omega arith))
 
 point-at-requires : tie.Need-point-at-requires
 point-at-requires c κs = search needs
@@ -32,7 +32,8 @@ same-length-2 : tie.Need-same-length-2
 same-length-2 c = search needs
 
 returns-3 : tie.Need-returns-3
-returns-3 c = both-written _ (c .before .before .before .before .before .before .before .before .before .before .before .before .before .before .args .words .now) _ (c .before .before .before .before .before .before .before .before .before .before .before .before .before .before .args .point .now) (spelled (ap pointWords (c .before .before .before .before .before .before .before .before .point-at .ensures)) (c .before .before .before .before .before .before .put-point .ensures)) (spelled (ap pointDoubles (c .before .before .before .before .before .before .before .before .point-at .ensures)) (c .before .before .put-doubles .ensures)) (rw point-three (omega arith)) (rw doubles-three (omega arith))
+returns-3 c = let asked = c .before .before .before .before .before .before .before .before .point-at in
+    both-written (spelled (ap pointWords (asked .ensures)) (c .before .before .before .before .before .before .put-point .ensures)) (spelled (ap pointDoubles (asked .ensures)) (c .before .before .put-doubles .ensures)) (rw point-three (omega arith)) (rw doubles-three (omega arith))
 
 pub ambrothel-point-at-spec : {M : Type 1} → statement M
 ambrothel-point-at-spec =

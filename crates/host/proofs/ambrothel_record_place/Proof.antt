@@ -4,14 +4,14 @@ use mathlib.Core.Path.{ap}
 use native.Mathlib.Omega.{arith}
 use Rattle.words.specs.Words.{placeWords}
 use Rattle.writing.proofs.Puts.{spelled}
-use Rattle.rooms.proofs.Rooms.{one-short, one-written}
-use Rattle.rooms.proofs.Lengths.{place-five}
+use Rattle.words.proofs.Lent.{one-short, one-written}
+use Rattle.words.proofs.Lengths.{place-five}
 use borrow.Author.Needs.{needs}
 use Rattle.host.proofs.ambrothel_record_place.Statement.{statement}
 use Rattle.host.proofs.ambrothel_record_place.Tie as tie
 
 returns : tie.Need-returns
-returns c = one-short _ (c .before .before .before .args .words .now) (rw place-five (omega arith))
+returns c = one-short (rw place-five (omega arith))
 
 record-place-requires : tie.Need-record-place-requires
 record-place-requires c κs = search needs
@@ -23,7 +23,7 @@ same-length : tie.Need-same-length
 same-length c = search needs
 
 returns-2 : tie.Need-returns-2
-returns-2 c = one-written _ (c .before .before .before .before .before .before .before .before .args .words .now) (spelled (ap placeWords (c .before .before .before .record-place .ensures)) (c .before .before .put-place .ensures)) (rw place-five (omega arith))
+returns-2 c = one-written (spelled (ap placeWords (c .before .before .before .record-place .ensures)) (c .before .before .put-place .ensures)) (rw place-five (omega arith))
 
 pub ambrothel-record-place-spec : {M : Type 1} → statement M
 ambrothel-record-place-spec =

@@ -1,63 +1,50 @@
--- `values::fill` meets its contract: the places before `i` hold the bytes from `at` on.
+-- `values::fill` meets its contract: the bytes lent are as many as the room has.
 -- Assumes nothing.
-use Prim.Native.Nat.{ℕ, _+_, _-_, _<_, _≤_}
-use mathlib.Core.Path.{_≡_}
+use Prim.Native.Nat.{_+_, _-_}
+use mathlib.Core.Path.{_≡_, _∙_}
 use native.Mathlib.Omega.{arith}
-use lib.ListN.{length, getD, length-set}
+use lib.ListN.{length, take, drop, length-drop}
+use lib.Seq.{length-take-le}
 use borrow.Author.Needs.{needs}
-use Rattle.values.proofs.Values.{copied-more, copied-all}
+use Rattle.writing.proofs.Puts.{fills, lent-part}
 use Rattle.values.proofs.fill.Statement.{statement}
 use Rattle.values.proofs.fill.Tie as tie
 
-abbrev Inv-loop : tie.InvT-loop
-Inv-loop p at d₀ i₀ d i = (i ≤ length d) × (length d ≡ length d₀) × ((k : ℕ) → k < i → getD d k 0 ≡ getD p (at + k) 0)
+add-end : tie.Need-add-end
+add-end c = search needs
 
-abbrev μ-loop : tie.MeasureT-loop
-μ-loop p at d₀ i₀ d i = length d - i
+sub-put-text : tie.Need-sub-put-text
+sub-put-text c = search needs
 
-loop-holds : tie.Need-loop-holds Inv-loop μ-loop
-loop-holds c = (omega arith, omega arith, λ k h. absurd (omega arith))
+part-put-text-start : tie.Need-part-put-text-start
+part-put-text-start c = search needs
 
-add-d : tie.Need-add-d Inv-loop μ-loop
-add-d c = omega arith
+part-put-text-end : tie.Need-part-put-text-end
+part-put-text-end c = search needs
 
-shared-slice-read-d : tie.Need-shared-slice-read-d Inv-loop μ-loop
-shared-slice-read-d c = omega arith
+put-text-requires : tie.Need-put-text-requires
+put-text-requires c κs = search needs
 
-slice-write-d : tie.Need-slice-write-d Inv-loop μ-loop
-slice-write-d c = omega arith
-
-add-i : tie.Need-add-i Inv-loop μ-loop
-add-i c = omega arith
-
-loop-less : tie.Need-loop-less Inv-loop μ-loop
-loop-less c = simp length-set (omega arith)
-
-loop-again : tie.Need-loop-again Inv-loop μ-loop
-loop-again c = (
-  simp length-set (omega arith),
-  simp length-set (c .before .before .loop .inv .1),
-  copied-more (c .before .before .before .args .p .now) (c .before .before .before .args .at) (c .before .before .loop .d) (c .before .before .loop .i) (omega arith) (c .before .before .loop .inv .2),
-)
-
-same-length : tie.Need-same-length Inv-loop μ-loop
+same-length : tie.Need-same-length
 same-length c = search needs
 
-returns : tie.Need-returns Inv-loop μ-loop
-returns c = copied-all (c .before .before .args .p .now) (c .before .before .args .at) (c .before .loop .d) (length (c .before .before .args .d .now)) (c .before .loop .inv .1) (c .before .before .pre) (λ k h. c .before .loop .inv .2 k (omega arith))
+returns : tie.Need-returns
+returns c =
+    let start = c .before .before .before .before .before .before .before in
+    let p = start .args .p .now in
+    let at = start .args .at in
+    let n = length (start .args .d .now) in
+    let whole : length (take (at + n - at) (drop at p)) ≡ n = length-take-le (at + n - at) (drop at p) (omega (arith, length-drop at p, start .pre)) ∙ omega arith in
+    fills (c .before .before .put-text .ensures) whole ∙ lent-part p at n
 
 pub fill-spec : {M : Type 1} → statement M
 fill-spec =
     tie.close
     (tie.spec
-    Inv-loop
-    μ-loop
-    loop-holds
-    add-d
-    shared-slice-read-d
-    slice-write-d
-    add-i
-    loop-less
-    loop-again
+    add-end
+    sub-put-text
+    part-put-text-start
+    part-put-text-end
+    put-text-requires
     same-length
     returns)

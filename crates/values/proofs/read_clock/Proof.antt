@@ -31,10 +31,12 @@ shared-slice-read-t8 c = search needs
 returns : tie.Need-returns
 unfolding headerOf headerNumber valueOf placeOf widthOf mph lineClasses valueClasses quoteWidth valueWidth
 returns c =
+    let binary = c .before .before .before .before .whole-at in
+    let step = c .before .before .before .whole-at2 in
     λ j. record {
       «utc_sbt_time» = c .before .before .before .before .before .bytes27 .ensures j;
-      «sat_binary_time» = (kept (c .before .before .before .before .whole-at .ok) ∙ c .before .before .before .before .whole-at .ensures) j;
-      «clock_step» = (kept (c .before .before .before .whole-at2 .ok) ∙ c .before .before .before .whole-at2 .ensures) j;
+      «sat_binary_time» = (kept (binary .ok) ∙ binary .ensures) j;
+      «clock_step» = (kept (step .ok) ∙ step .ensures) j;
       «leap_utc» = c .before .before .bytes272 .ensures j;
       «leap_sign» = (kept (c .before .whole-at3 .ok) ∙ c .before .whole-at3 .ensures) j;
       «leap_err» = one-byte (c .before .before .before .before .before .before .before .args .p .now) 1009 j;

@@ -40,14 +40,20 @@ bytes2-requires c κs = search needs
 returns : tie.Need-returns
 unfolding headerOf headerNumber valueOf placeOf widthOf mph lineClasses valueClasses quoteWidth valueWidth
 returns c =
+    let delta = c .before .before .before .before .before .before .before .whole-at in
+    let x = c .before .before .before .before .before .before .whole-at2 in
+    let y = c .before .before .before .before .before .whole-at3 in
+    let z = c .before .before .before .before .whole-at4 in
+    let dx = c .before .before .before .whole-at5 in
+    let dy = c .before .before .whole-at6 in
     λ j. record {
       «state_vector_time» = c .before .before .before .before .before .before .before .before .bytes27 .ensures j;
-      «delta_ut1» = (kept (c .before .before .before .before .before .before .before .whole-at .ok) ∙ c .before .before .before .before .before .before .before .whole-at .ensures) j;
-      «x_position» = (kept (c .before .before .before .before .before .before .whole-at2 .ok) ∙ c .before .before .before .before .before .before .whole-at2 .ensures) j;
-      «y_position» = (kept (c .before .before .before .before .before .whole-at3 .ok) ∙ c .before .before .before .before .before .whole-at3 .ensures) j;
-      «z_position» = (kept (c .before .before .before .before .whole-at4 .ok) ∙ c .before .before .before .before .whole-at4 .ensures) j;
-      «x_velocity» = (kept (c .before .before .before .whole-at5 .ok) ∙ c .before .before .before .whole-at5 .ensures) j;
-      «y_velocity» = (kept (c .before .before .whole-at6 .ok) ∙ c .before .before .whole-at6 .ensures) j;
+      «delta_ut1» = (kept (delta .ok) ∙ delta .ensures) j;
+      «x_position» = (kept (x .ok) ∙ x .ensures) j;
+      «y_position» = (kept (y .ok) ∙ y .ensures) j;
+      «z_position» = (kept (z .ok) ∙ z .ensures) j;
+      «x_velocity» = (kept (dx .ok) ∙ dx .ensures) j;
+      «y_velocity» = (kept (dy .ok) ∙ dy .ensures) j;
       «z_velocity» = (kept (c .before .whole-at7 .ok) ∙ c .before .whole-at7 .ensures) j;
       «vector_source» = c .bytes2 .ensures j;
     }

@@ -33,11 +33,14 @@ whole-at-requires-5 c κs = search needs
 returns : tie.Need-returns
 unfolding headerOf headerNumber valueOf placeOf widthOf mph lineClasses valueClasses quoteWidth valueWidth
 returns c =
+    let total = c .before .before .before .before .whole-at in
+    let sph = c .before .before .before .whole-at2 in
+    let dsds = c .before .before .whole-at3 in
     λ j. record {
       «product_err» = one-byte (c .before .before .before .before .before .before .before .args .p .now) 1064 j;
-      «tot_size» = (kept (c .before .before .before .before .whole-at .ok) ∙ c .before .before .before .before .whole-at .ensures) j;
-      «sph_size» = (kept (c .before .before .before .whole-at2 .ok) ∙ c .before .before .before .whole-at2 .ensures) j;
-      «num_dsd» = (kept (c .before .before .whole-at3 .ok) ∙ c .before .before .whole-at3 .ensures) j;
+      «tot_size» = (kept (total .ok) ∙ total .ensures) j;
+      «sph_size» = (kept (sph .ok) ∙ sph .ensures) j;
+      «num_dsd» = (kept (dsds .ok) ∙ dsds .ensures) j;
       «dsd_size» = (kept (c .before .whole-at4 .ok) ∙ c .before .whole-at4 .ensures) j;
       «num_data_sets» = (kept (c .whole-at5 .ok) ∙ c .whole-at5 .ensures) j;
     }

@@ -23,12 +23,13 @@ whole-requires c κs =
 
 returns : tie.Need-returns
 returns c =
-    let fits : numberOf (part (c .before .before .before .args .p .now) (c .before .before .before .args .at) (c .before .before .before .args .width)) .magnitude ≤ 9223372036854775807 =
-    number-fits _ _ _ (λ k. c .before .before .shared-slice-known .given k .fits) (c .before .before .before .pre .2) in
+    let start = c .before .before .before in
+    let fits : numberOf (part (start .args .p .now) (start .args .at) (start .args .width)) .magnitude ≤ 9223372036854775807 =
+    number-fits _ _ _ (λ k. c .before .before .shared-slice-known .given k .fits) (start .pre .2) in
     kept (c .whole .ok)
     ∙ c .whole .ensures
     ∙ ap wholeIn (c .before .number-at .ensures)
-    ∙ whole-true (c .before .before .before .args .p .now) (c .before .before .before .args .at) (c .before .before .before .args .width) (magnitude-fits _ _ _ .1 fits)
+    ∙ whole-true (start .args .p .now) (start .args .at) (start .args .width) (magnitude-fits _ _ _ .1 fits)
 
 pub whole-at-spec : {M : Type 1} → statement M
 whole-at-spec = tie.close (tie.spec number-at-requires whole-requires returns)

@@ -42,10 +42,11 @@ loop-less c = omega arith
 
 loop-again : tie.Need-loop-again Inv-loop μ-loop
 loop-again c =
-    let i = c .before .before .before .loop .i in
+    let turn = c .before .before .before .loop in
+    let i = turn .i in
     let bytes = c .before .before .before .before .before .before .args .bytes .now in
     let more : i + 1 ≤ length bytes = omega arith in
-    (more, rw (c .before .before .before .loop .inv .1, c .wide .ensures, one-more _ bytes _ i 0 (omega arith), add-one i))
+    (more, rw (turn .inv .1, c .wide .ensures, one-more _ bytes _ i 0 (omega arith), add-one i))
 
 add-result : tie.Need-add-result Inv-loop μ-loop
 add-result c = omega arith

@@ -1,7 +1,7 @@
 -- `words::put_doubles` meets its contract, by the cases of the answer.
 -- Assumes nothing.
 use Rattle.writing.proofs.Puts.{spelled}
-use Rattle.words.proofs.Laws.{point-doubles, no-point-doubles}
+use Rattle.words.proofs.AnswerWords.{point-doubles, no-point-doubles}
 use borrow.Author.Needs.{needs}
 use Rattle.words.proofs.put_doubles.Statement.{statement}
 use Rattle.words.proofs.put_doubles.Tie as tie
@@ -28,7 +28,9 @@ same-length-2 : tie.Need-same-length-2
 same-length-2 c = search needs
 
 returns-2 : tie.Need-returns-2
-returns-2 c = spelled (point-doubles (c .before .before .before .before .before .before .before .before .args .answer) (c .before .before .before .before .before .answer .given .0 .0) (c .before .before .before .before .before .answer .given .1)) (c .before .before .put-three2 .ensures)
+returns-2 c =
+    let known = c .before .before .before .before .before .answer .given in
+    spelled (point-doubles (c .before .before .before .before .before .before .before .before .args .answer) (known .0 .0) (known .1)) (c .before .before .put-three2 .ensures)
 
 pub put-doubles-spec : {M : Type 1} → statement M
 put-doubles-spec =

@@ -5,7 +5,7 @@ use mathlib.Core.List.{List, _∷_}
 use mathlib.Core.Path.{_∙_, ap}
 use native.Mathlib.Omega.{arith}
 use Rattle.writing.proofs.Puts.{then, at-most, spelled}
-use Rattle.words.proofs.Laws.{field-words, no-field-words}
+use Rattle.words.proofs.AnswerWords.{field-words, no-field-words}
 use borrow.Author.Needs.{needs}
 use Rattle.words.proofs.put_field.Statement.{statement}
 use Rattle.words.proofs.put_field.Tie as tie
@@ -44,15 +44,18 @@ same-length : tie.Need-same-length
 same-length c = search needs
 
 returns : tie.Need-returns
-returns c = spelled (no-field-words (c .before .before .before .before .before .before .before .before .before .before .before .before .before .args .answer) (c .before .before .before .before .before .before .before .before .before .before .answer .given .0 .0) (c .before .before .before .before .before .before .before .before .before .before .answer .given .1)) (then (c .before .before .before .before .before .before .before .put-refusal .ensures) (c .before .before .put-words .ensures))
+returns c =
+    let known = c .before .before .before .before .before .before .before .before .before .before .answer .given in
+    spelled (no-field-words (c .before .before .before .before .before .before .before .before .before .before .before .before .before .args .answer) (known .0 .0) (known .1)) (then (c .before .before .before .before .before .before .before .put-refusal .ensures) (c .before .before .put-words .ensures))
 
 same-length-2 : tie.Need-same-length-2
 same-length-2 c = search needs
 
 returns-2 : tie.Need-returns-2
 returns-2 c =
+    let known = c .before .before .before .before .before .before .before .before .before .before .before .before .answer2 .given in
     let put = then (c .before .before .before .before .before .before .before .put-words2 .ensures) (c .before .before .put-words3 .ensures) in
-    spelled (ap (λ (l : List ℕ). 0 ∷ 0 ∷ 0 ∷ l) (c .before .before .before .before .before .before .before .before .before .before .value-words .ensures) ∙ field-words (c .before .before .before .before .before .before .before .before .before .before .before .before .before .before .before .args .answer) (c .before .before .before .before .before .before .before .before .before .before .before .before .answer2 .given .0 .0) (c .before .before .before .before .before .before .before .before .before .before .before .before .answer2 .given .1)) (at-most 7 put (omega (arith, put .narrow, slice-aggregate-put-words-3 (c .before .before .before))))
+    spelled (ap (λ (l : List ℕ). 0 ∷ 0 ∷ 0 ∷ l) (c .before .before .before .before .before .before .before .before .before .before .value-words .ensures) ∙ field-words (c .before .before .before .before .before .before .before .before .before .before .before .before .before .before .before .args .answer) (known .0 .0) (known .1)) (at-most 7 put (omega (arith, put .narrow, slice-aggregate-put-words-3 (c .before .before .before))))
 
 pub put-field-spec : {M : Type 1} → statement M
 put-field-spec =

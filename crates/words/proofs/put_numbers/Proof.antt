@@ -50,12 +50,13 @@ loop-less c = omega arith
 
 loop-again : tie.Need-loop-again Inv-loop μ-loop
 loop-again c =
-    let i = c .before .before .before .loop .i in
+    let turn = c .before .before .before .loop in
+    let i = turn .i in
     let numbers = c .before .before .before .before .before .args .numbers .now in
     let more : i + 1 ≤ length numbers = omega arith in
     let is = c .word-of .ensures ∙ ap word (toZ-ofZ {w = w64} {z = getD numbers i (pos 0)} (record { sfits = c .before .word-of-arg .given })) ∙ sym (List·getD-map word numbers i (pos 0)) in
     let below : i < length (map word numbers) = rw length-map (omega arith) in
-    (more, rw (c .before .before .before .loop .inv .1, is, one-more _ (map word numbers) _ i (word (pos 0)) below, add-one i))
+    (more, rw (turn .inv .1, is, one-more _ (map word numbers) _ i (word (pos 0)) below, add-one i))
 
 add-result : tie.Need-add-result Inv-loop μ-loop
 add-result c = omega arith

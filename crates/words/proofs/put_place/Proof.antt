@@ -1,7 +1,7 @@
 -- `words::put_place` meets its contract, by the cases of the answer.
 -- Assumes nothing.
 use Rattle.writing.proofs.Puts.{then, spelled}
-use Rattle.words.proofs.Laws.{place-words, no-place-words}
+use Rattle.words.proofs.AnswerWords.{place-words, no-place-words}
 use borrow.Author.Needs.{needs}
 use Rattle.words.proofs.put_place.Statement.{statement}
 use Rattle.words.proofs.put_place.Tie as tie
@@ -37,7 +37,9 @@ same-length-2 : tie.Need-same-length-2
 same-length-2 c = search needs
 
 returns-2 : tie.Need-returns-2
-returns-2 c = spelled (no-place-words (c .before .before .before .before .before .before .before .before .before .before .before .before .before .args .answer) (c .before .before .before .before .before .before .before .before .before .before .answer2 .given .0 .0) (c .before .before .before .before .before .before .before .before .before .before .answer2 .given .1)) (then (c .before .before .before .before .before .before .before .put-refusal .ensures) (c .before .before .put-words2 .ensures))
+returns-2 c =
+    let known = c .before .before .before .before .before .before .before .before .before .before .answer2 .given in
+    spelled (no-place-words (c .before .before .before .before .before .before .before .before .before .before .before .before .before .args .answer) (known .0 .0) (known .1)) (then (c .before .before .before .before .before .before .before .put-refusal .ensures) (c .before .before .put-words2 .ensures))
 
 pub put-place-spec : {M : Type 1} → statement M
 put-place-spec =

@@ -1,7 +1,7 @@
 -- `words::put_point` meets its contract, by the cases of the answer.
 -- Assumes nothing.
 use Rattle.writing.proofs.Puts.{spelled}
-use Rattle.words.proofs.Laws.{point-words, no-point-words}
+use Rattle.words.proofs.AnswerWords.{point-words, no-point-words}
 use borrow.Author.Needs.{needs}
 use Rattle.words.proofs.put_point.Statement.{statement}
 use Rattle.words.proofs.put_point.Tie as tie
@@ -25,7 +25,9 @@ same-length : tie.Need-same-length
 same-length c = search needs
 
 returns : tie.Need-returns
-returns c = spelled (no-point-words (c .before .before .before .before .before .before .before .before .args .answer) (c .before .before .before .before .before .answer .given .0 .0) (c .before .before .before .before .before .answer .given .1)) (c .before .before .put-refusal .ensures)
+returns c =
+    let known = c .before .before .before .before .before .answer .given in
+    spelled (no-point-words (c .before .before .before .before .before .before .before .before .args .answer) (known .0 .0) (known .1)) (c .before .before .put-refusal .ensures)
 
 same-length-2 : tie.Need-same-length-2
 same-length-2 c = search needs

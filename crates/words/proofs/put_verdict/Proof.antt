@@ -1,7 +1,7 @@
 -- `words::put_verdict` meets its contract, by the cases of the verdict.
 -- Assumes nothing.
 use Rattle.writing.proofs.Puts.{spelled}
-use Rattle.words.proofs.Laws.{accepted-words, refused-words}
+use Rattle.words.proofs.AnswerWords.{accepted-words, refused-words}
 use borrow.Author.Needs.{needs}
 use Rattle.words.proofs.put_verdict.Statement.{statement}
 use Rattle.words.proofs.put_verdict.Tie as tie
@@ -31,7 +31,9 @@ same-length-2 : tie.Need-same-length-2
 same-length-2 c = search needs
 
 returns-2 : tie.Need-returns-2
-returns-2 c = spelled (refused-words (c .before .before .before .before .before .before .before .before .args .verdict) (c .before .before .before .before .before .verdict .given .0 .0) (c .before .before .before .before .before .verdict .given .1)) (c .before .before .put-refusal .ensures)
+returns-2 c =
+    let known = c .before .before .before .before .before .verdict .given in
+    spelled (refused-words (c .before .before .before .before .before .before .before .before .args .verdict) (known .0 .0) (known .1)) (c .before .before .put-refusal .ensures)
 
 pub put-verdict-spec : {M : Type 1} → statement M
 put-verdict-spec =

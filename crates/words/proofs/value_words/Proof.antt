@@ -5,7 +5,7 @@ use mir.Syntax.{w32, w64}
 use mir.Val.{SFits}
 use mir.Facts.{toZ-ofZ, sfits-widen}
 use Rattle.words.specs.Words.{word}
-use Rattle.words.proofs.Laws.{whole-words, single-words, double-words, time-words}
+use Rattle.words.proofs.AnswerWords.{whole-words, single-words, double-words, time-words}
 use borrow.Author.Needs.{needs}
 use Rattle.words.proofs.value_words.Statement.{statement}
 use Rattle.words.proofs.value_words.Tie as tie
@@ -52,7 +52,10 @@ returns-3 : tie.Need-returns-3
 returns-3 c = double-words (c .before .before .before .args .field) _ _ (c .before .field3 .given .1)
 
 returns-4 : tie.Need-returns-4
-returns-4 c = time-words (c .before .before .before .before .before .before .before .before .args .field) (c .before .before .before .before .before .before .field4 .given .0 .0) _ (c .before .before .before .before .before .before .field4 .given .1) (c .before .before .word-of2 .ensures ∙ ap word (toZ-ofZ {w = w64} (cast-word-of (c .before .before .before)) ∙ toZ-ofZ {w = w32} (record { sfits = c .before .before .before .struct-told .given .0 .1 })))
+returns-4 c =
+    let known = c .before .before .before .before .before .before .field4 .given in
+    let cast = c .before .before .before in
+    time-words (c .before .before .before .before .before .before .before .before .args .field) (known .0 .0) _ (known .1) (c .before .before .word-of2 .ensures ∙ ap word (toZ-ofZ {w = w64} (cast-word-of cast) ∙ toZ-ofZ {w = w32} (record { sfits = cast .struct-told .given .0 .1 })))
 
 pub value-words-spec : {M : Type 1} → statement M
 value-words-spec =

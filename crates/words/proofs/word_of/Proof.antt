@@ -4,7 +4,7 @@ use mathlib.Core.Path.{ap, _∙_}
 use lib.IntN.{natAbs}
 use mir.Facts.{toZ-ofZ}
 use Rattle.writing.proofs.Signs.{negative, not-negative}
-use Rattle.words.proofs.Laws.{has-magnitude, negative-word, other-word}
+use Rattle.words.proofs.AnswerWords.{has-magnitude, negative-word, other-word}
 use borrow.Author.Needs.{needs}
 use Rattle.words.proofs.word_of.Statement.{statement}
 use Rattle.words.proofs.word_of.Tie as tie

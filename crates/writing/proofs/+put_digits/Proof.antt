@@ -113,7 +113,9 @@ put-digits-returns-2 : (t : ℕ) → put-digits-lts.Need-returns-2 (
   put-digits-below t,
   put-digits.Post,
 ) (put-digits-at t) put-digits.Post
-put-digits-returns-2 t c = put-last-digit (c .before .before .before .before .before .before .before .before .before .before .args .number) (c .before .before .before .before .before .before .before .before .if1 .left) (c .before .before .before .before .before .before .before .before .before .before .fits .number .fits) (c .before .before .before .before .before .before .put-digits .ensures) (c .before .before .put-byte2 .ensures)
+put-digits-returns-2 t c =
+    let start = c .before .before .before .before .before .before .before .before .before .before in
+    put-last-digit (start .args .number) (c .before .before .before .before .before .before .before .before .if1 .left) (start .fits .number .fits) (c .before .before .before .before .before .before .put-digits .ensures) (c .before .before .put-byte2 .ensures)
 
 pub +put-digits-spec : {M : Type 1} → statement M
 +put-digits-spec = close μ-put-digits λ t. put-digits-lts.spec (

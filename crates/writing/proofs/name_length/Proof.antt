@@ -28,13 +28,19 @@ shared-slice-read-if1 : tie.Need-shared-slice-read-if1 Inv-loop μ-loop
 shared-slice-read-if1 c = omega arith
 
 returns : tie.Need-returns Inv-loop μ-loop
-returns c = (omega arith, c .before .before .before .loop .inv .1 ∙ kept-all (c .before .before .before .before .args .names .now) (c .before .before .before .before .args .start) (c .before .before .before .loop .kept) (omega arith) (omega arith) (c .if1 .taken))
+returns c =
+    let start = c .before .before .before .before in
+    let turn = c .before .before .before .loop in
+    (omega arith, turn .inv .1 ∙ kept-all (start .args .names .now) (start .args .start) (turn .kept) (omega arith) (omega arith) (c .if1 .taken))
 
 loop-less : tie.Need-loop-less Inv-loop μ-loop
 loop-less c = omega arith
 
 loop-again : tie.Need-loop-again Inv-loop μ-loop
-loop-again c = (omega arith, c .before .before .before .loop .inv .1 ∙ kept-less (c .before .before .before .before .args .names .now) (c .before .before .before .before .args .start) (c .before .before .before .loop .kept) (omega arith) (omega arith) (c .if1 .left))
+loop-again c =
+    let start = c .before .before .before .before in
+    let turn = c .before .before .before .loop in
+    (omega arith, turn .inv .1 ∙ kept-less (start .args .names .now) (start .args .start) (turn .kept) (omega arith) (omega arith) (c .if1 .left))
 
 returns-2 : tie.Need-returns-2 Inv-loop μ-loop
 returns-2 c = (omega arith, let e : c .before .loop .kept ≡ 0 = omega arith in rw e at (c .before .loop .inv .1) ∙ kept-none (c .before .before .args .names .now) (c .before .before .args .start))

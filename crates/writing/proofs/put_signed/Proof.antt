@@ -25,10 +25,11 @@ same-length c = search needs
 
 returns : tie.Need-returns
 returns c =
-    let a = c .before .before .before .before .before .before .before .before .before .before .before .args in
+    let start = c .before .before .before .before .before .before .before .before .before .before .before in
+    let a = start .args in
     let m = c .before .before .before .magnitude in
-    let is = m .ensures ∙ ap natAbs (toZ-ofZ (c .before .before .before .before .before .before .before .before .before .before .before .fits .number)) in
-    let below = negative (c .before .before .before .before .before .before .before .before .before .before .before .args .number) (c .before .before .before .before .before .before .before .before .before .before .before .fits .number) (c .before .before .before .before .before .before .before .before .before .if1 .taken) in
+    let is = m .ensures ∙ ap natAbs (toZ-ofZ (start .fits .number)) in
+    let below = negative (a .number) (start .fits .number) (c .before .before .before .before .before .before .before .before .before .if1 .taken) in
     spelled (minus (a .number) (m .result) (a .end) is below) (then (c .before .before .before .before .before .before .before .put-byte .ensures) (c .before .before .put-number .ensures))
 
 magnitude-requires-2 : tie.Need-magnitude-requires-2
@@ -42,10 +43,11 @@ same-length-2 c = search needs
 
 returns-2 : tie.Need-returns-2
 returns-2 c =
-    let a = c .before .before .before .before .before .before .before .args in
+    let start = c .before .before .before .before .before .before .before in
+    let a = start .args in
     let m = c .before .before .before .magnitude2 in
-    let is = m .ensures ∙ ap natAbs (toZ-ofZ (c .before .before .before .before .before .before .before .fits .number)) in
-    let above = not-negative (c .before .before .before .before .before .before .before .args .number) (c .before .before .before .before .before .before .before .fits .number) (c .before .before .before .before .before .if1 .left) in
+    let is = m .ensures ∙ ap natAbs (toZ-ofZ (start .fits .number)) in
+    let above = not-negative (a .number) (start .fits .number) (c .before .before .before .before .before .if1 .left) in
     let put = c .before .before .put-number2 .ensures in
     at-most 22 (spelled (no-minus (a .number) (m .result) (a .end) is above) put) (omega (arith, put .narrow, ap length (no-minus (a .number) (m .result) (a .end) is above)))
 

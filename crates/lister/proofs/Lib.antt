@@ -1,4 +1,0 @@
-pub mod Lines
-pub mod Held
-pub mod Same
-pub mod Whole

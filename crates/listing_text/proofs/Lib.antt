@@ -1,0 +1,6 @@
+pub mod Names
+pub mod EntryLine
+pub mod Lines
+pub mod Held
+pub mod Same
+pub mod Whole

@@ -1,0 +1,151 @@
+-- What is written for a verdict, a length and a directory is the listing of document 01, for every input.
+-- Assumes nothing.
+use Prim.Native.Nat.{ℕ, zero, suc, _+_, _*_, _-_, _≤_, _<_}
+use mathlib.Core.Bool.{Bool, true, false, cond}
+use mathlib.Core.Logic.{inl, inr}
+use mathlib.Core.Path.{_≡_, refl, sym, ap, _∙_, subst}
+use mathlib.Core.List.{List, [], _∷_, map}
+use native.Mathlib.Omega.{arith}
+use lib.Dec.{T, eqb, ltb, eqb→eq}
+use lib.IntN.{ℤ, pos, negℤ}
+use lib.Signed.{_≤ℤ_}
+use lib.ListN.{length, drop, replicate, length-map, length-drop}
+use lib.Seq.{length-take-le}
+use borrow.Author.Tests.{eqb-false}
+use Rattle.layout.specs.Bytes.{bytes, part}
+use Rattle.layout.specs.Text.{Number, whole, lineClasses, valueClasses, valueWidth, quoteWidth, placeOf, widthOf, valueOf}
+use Rattle.layout.specs.Lines.{dsd}
+use Rattle.layout.specs.Answer.{Answer, accepted, refused}
+use Rattle.layout.specs.Search.{upto, join}
+use Rattle.layout.specs.Entries.{Entry, headersEnd, entries, dsdAt, dsdBytes, entryOf, entryAt, directory, at, isData, start, extent}
+use Rattle.layout.specs.Rules.{verdict}
+use Rattle.layout.specs.Listing.{decimal, signedDecimal, trimmed, lineOf, entryLine, acceptedLines, listingFor, listing}
+use Rattle.layout.specs.Answers.{padded, typeOf, nameOf, countOf, recordSizeOf, directoryOf, directoryFor, noDirectory}
+use Rattle.layout.proofs.Padded.{getD-map, padded-at}
+use Rattle.layout.proofs.Types.{Typed}
+use Rattle.layout.specs.Faults.{NumbersFit}
+use Rattle.layout.proofs.Tests.{data-T}
+use Rattle.layout.proofs.Sound.{Sound, sound, length-directory, at-directory, last-of-four}
+use Rattle.listing_text.specs.declared.Listed.{Listed}
+use Rattle.listing_text.specs.EntryLine.{nameAt, entryWords, entryText}
+use Rattle.listing_text.specs.Listing.{listedOf, entryTextAt, entryTexts, acceptedText, refusalText, listingOf, longerText}
+use Rattle.listing_text.proofs.Held.{text-at}
+
+-- ---- numbers
+
+not-below : (n : Number) → pos 0 ≤ℤ whole n → decimal (n .magnitude) ≡ signedDecimal (whole n)
+unfolding whole signedDecimal
+not-below n h = go (n .minus) (n .magnitude) h
+  where
+    go : (m : Bool) (k : ℕ) → pos 0 ≤ℤ cond m (negℤ (pos k)) (pos k) → decimal k ≡ signedDecimal (cond m (negℤ (pos k)) (pos k))
+    go true zero h = refl
+    go true (suc k) h = absurd (h .le)
+    go false k h = refl
+
+is-zero : (n : Number) → whole n ≡ pos 0 → decimal (n .magnitude) ≡ signedDecimal (whole n)
+is-zero n h = not-below n (subst (λ (z : ℤ). pos 0 ≤ℤ z) (sym h) (record { le = tt }))
+
+-- an entry that is no spare is data, or all its numbers are zero
+abbrev Unsigned : Entry → Type 0
+Unsigned e =
+    (decimal (start e) ≡ signedDecimal (whole (e .offset)))
+    × ((decimal (extent e) ≡ signedDecimal (whole (e .size))) × (decimal (countOf e) ≡ signedDecimal (whole (e .count))))
+
+unsigned : (e : Entry) → Typed e → NumbersFit e → (e .type ≡ 32 → ⊥) → Unsigned e
+unfolding isData start extent
+unsigned e typed fit named = go typed (isData e) refl
+  where
+    go : Typed e → (d : Bool) → isData e ≡ d → Unsigned e
+    go (inr s) d x = absurd (named (s .0))
+    go (inl m) true x =
+        let r = fit .1 (data-T e .0 (subst (λ (t : Bool). T t) (sym x) tt)) .0 in
+        (not-below (e .offset) (r .0), (not-below (e .size) (r .1 .0), not-below (e .count) (r .1 .1 .0)))
+    go (inl m) false x =
+        let r = fit .0 (eqb→eq (e .type) 82 (last-of-four (eqb (e .type) 77) (eqb (e .type) 65) (eqb (e .type) 71) (eqb (e .type) 82) m x)) in
+        (is-zero (e .offset) (r .0), (is-zero (e .size) (r .1 .0), is-zero (e .count) (r .1 .1 .0)))
+
+-- ---- names
+
+module _ (b : List ℕ) (good : Sound b) where
+  dsd-whole : (i : ℕ) → i < entries b → length (dsdBytes b i) ≡ 280
+  unfolding dsdBytes part dsdAt headersEnd
+  dsd-whole i h =
+      length-take-le 280 (drop (headersEnd b - 280 * entries b + 280 * i) b)
+      (omega (arith, good .headers, good .dsds, length-drop (headersEnd b - 280 * entries b + 280 * i) b))
+
+  name-width : (i : ℕ) → i < length (directory b) → length (at (directory b) i .name) ≡ 28
+  unfolding entryAt entryOf valueOf placeOf widthOf dsd lineClasses valueClasses quoteWidth valueWidth part
+  name-width i l =
+      let m : i < entries b = omega (arith, length-directory b) in
+      rw (at-directory b i m) (length-take-le 28 (drop 9 (dsdBytes b i)) (omega (arith, dsd-whole i m, length-drop 9 (dsdBytes b i))))
+
+-- ---- lines
+
+module _ (ds : List Entry) (i : ℕ) (l : i < length ds) (wide : (k : ℕ) → k < length ds → length (at ds k .name) ≡ 28) where
+  name-same : nameAt (directoryOf ds .names) i ≡ at ds i .name
+  unfolding nameAt part directoryOf padded at
+  name-same =
+      let none = entryOf (replicate 280 32) in
+      text-at (map nameOf ds) 28 i (replicate (3584 - length (join (map nameOf ds))) 0) (omega (arith, length-map ds nameOf))
+      (λ k h. let m : k < length ds = omega (arith, length-map ds nameOf) in ap length (getD-map nameOf ds k [] none m) ∙ wide k m)
+      ∙ getD-map nameOf ds i [] none l
+
+  abbrev listed : Entry → Listed
+  listed e = record { number = i; «ds_type» = e .type; offset = start e; size = extent e; count = countOf e; «record_size» = recordSizeOf e }
+
+  listed-same : listedOf (directoryOf ds) i ≡ listed (at ds i)
+  unfolding listedOf directoryOf
+  listed-same =
+      λ j. record {
+        number = i;
+        «ds_type» = padded-at typeOf 0 128 ds i l j;
+        offset = padded-at start 0 128 ds i l j;
+        size = padded-at extent 0 128 ds i l j;
+        count = padded-at countOf 0 128 ds i l j;
+        «record_size» = padded-at recordSizeOf (pos 0) 128 ds i l j;
+      }
+
+  -- a line's words behind the entry's number
+  abbrev line : List (List ℕ) → List ℕ
+  line words = lineOf (bytes "entry" ∷ decimal i ∷ words)
+
+  line-same : Typed (at ds i) → NumbersFit (at ds i) → entryTextAt (directoryOf ds) i ≡ entryLine ds i
+  unfolding entryTextAt entryText entryWords entryLine
+  line-same typed fit = ap (entryText (directoryOf ds .names)) listed-same ∙ go (eqb (at ds i .type) 32) refl
+    where
+      go : (t : Bool) → eqb (at ds i .type) 32 ≡ t
+          → cond t (line (bytes "spare" ∷ [])) (line (entryWords (directoryOf ds .names) (listed (at ds i))))
+          ≡ cond t (line (bytes "spare" ∷ []))
+          (line ((at ds i .type ∷ []) ∷ trimmed (at ds i .name) ∷ signedDecimal (whole (at ds i .offset)) ∷ signedDecimal (whole (at ds i .size)) ∷ signedDecimal (whole (at ds i .count)) ∷ signedDecimal (whole (at ds i .recordSize)) ∷ []))
+      go true x = refl
+      go false x =
+          let u = unsigned (at ds i) typed fit (eqb-false (at ds i .type) 32 x) in
+          rw (name-same, u .0, u .1 .0, u .1 .1)
+
+map-same : (f g : ℕ → List ℕ) (i n : ℕ) → ((k : ℕ) → i ≤ k → k < i + n → f k ≡ g k) → map f (upto i n) ≡ map g (upto i n)
+map-same f g i zero h = refl
+map-same f g i (suc n) h = rw (h i (omega arith) (omega arith), map-same f g (suc i) n (λ k l u. h k (omega arith) (omega arith)))
+
+-- ---- listings
+
+accepted-same : (b : List ℕ) → verdict b ≡ accepted → listingOf (verdict b) (length b) (directoryOf (directory b)) ≡ listingFor (verdict b) (acceptedLines b (directory b))
+unfolding listingOf listingFor acceptedText acceptedLines entryTexts directoryOf
+accepted-same b h =
+    let good = sound b h in
+    let ds = directory b in
+    rw (h, map-same (entryTextAt (directoryOf ds)) (entryLine ds) 0 (length ds) (λ k l u. let m : k < length ds = omega arith in line-same ds k m (name-width b good) (good .typed k m) (good .numbers k m)))
+
+refused-same : (b : List ℕ) (n p e : ℕ) → verdict b ≡ refused n p e → listingOf (verdict b) (length b) noDirectory ≡ listingFor (verdict b) (acceptedLines b (directory b))
+unfolding listingOf listingFor refusalText
+refused-same b n p e h = rw h
+
+-- for every input: of at most 65,536 bytes what is written for its verdict, length and directory, else the line for a longer one
+pub listing-same : (b : List ℕ) → listing b ≡ cond (ltb 65536 (length b)) longerText (listingOf (verdict b) (length b) (directoryFor (verdict b) b))
+unfolding listing longerText
+listing-same b = go (verdict b) refl
+  where
+    go : (a : Answer) → verdict b ≡ a
+        → cond (ltb 65536 (length b)) (lineOf (bytes "longer" ∷ bytes "than" ∷ bytes "65536" ∷ [])) (listingFor (verdict b) (acceptedLines b (directory b)))
+        ≡ cond (ltb 65536 (length b)) (lineOf (bytes "longer" ∷ bytes "than" ∷ bytes "65536" ∷ [])) (listingOf (verdict b) (length b) (directoryFor (verdict b) b))
+    go accepted h = rw (← accepted-same b h, h)
+    go (refused n p e) h = rw (← refused-same b n p e h, h)

@@ -1,0 +1,23 @@
+-- An entry's line of the listing, from what is listed of it and the names of the directory.
+-- Assumes nothing.
+use Prim.Native.Nat.{ℕ, _*_}
+use mathlib.Core.Bool.{cond}
+use mathlib.Core.List.{List, [], _∷_}
+use lib.Dec.{eqb}
+use Rattle.layout.specs.Bytes.{bytes, part}
+use Rattle.layout.specs.Listing.{decimal, signedDecimal, trimmed, lineOf}
+use Rattle.listing_text.specs.declared.Listed.{Listed}
+
+-- the name of entry i, 28 bytes an entry
+unfoldable pub nameAt : List ℕ → ℕ → List ℕ
+nameAt names i = part names (28 * i) 28
+
+-- type, name without trailing blanks, offset, size, records, record size
+unfoldable pub entryWords : List ℕ → Listed → List (List ℕ)
+entryWords names e = (e .«ds_type» ∷ []) ∷ trimmed (nameAt names (e .number)) ∷ decimal (e .offset) ∷ decimal (e .size) ∷ decimal (e .count) ∷ signedDecimal (e .«record_size») ∷ []
+
+unfoldable pub entryText : List ℕ → Listed → List ℕ
+entryText names e =
+    let isSpare = lineOf (bytes "entry" ∷ decimal (e .number) ∷ bytes "spare" ∷ []) in
+    let isNamed = lineOf (bytes "entry" ∷ decimal (e .number) ∷ entryWords names e) in
+    cond (eqb (e .«ds_type») 32) isSpare isNamed

@@ -1,0 +1,2 @@
+pub mod EntryLine
+pub mod Listing

@@ -1,0 +1,36 @@
+-- `words::headers::put_identity_texts` meets its contract: three pairs of texts, one behind the other.
+-- Assumes nothing.
+use native.Mathlib.Omega.{arith}
+use Rattle.writing.proofs.Puts.{then, at-most}
+use Rattle.words.specs.Headers.{identityTexts}
+use borrow.Author.Needs.{needs}
+use Rattle.words.proofs.headers.put_identity_texts.Statement.{statement}
+use Rattle.words.proofs.headers.put_identity_texts.Tie as tie
+
+put-two-texts-requires : tie.Need-put-two-texts-requires
+put-two-texts-requires c κs = search needs
+
+put-two-texts-requires-2 : tie.Need-put-two-texts-requires-2
+put-two-texts-requires-2 c κs = search needs
+
+put-two-texts-requires-3 : tie.Need-put-two-texts-requires-3
+put-two-texts-requires-3 c κs = search needs
+
+same-length : tie.Need-same-length
+same-length c = search needs
+
+returns : tie.Need-returns
+unfolding identityTexts
+returns c =
+    let put = then (c .before .before .before .before .before .before .before .before .before .before .before .before .before .before .before .before .before .before .before .before .put-two-texts .ensures) (then (c .before .before .before .before .before .before .before .before .before .before .before .put-two-texts2 .ensures) (c .before .before .put-two-texts3 .ensures)) in
+    at-most 152 put (omega (arith, put .narrow))
+
+pub put-identity-texts-spec : {M : Type 1} → statement M
+put-identity-texts-spec =
+    tie.close
+    (tie.spec
+    put-two-texts-requires
+    put-two-texts-requires-2
+    put-two-texts-requires-3
+    same-length
+    returns)
