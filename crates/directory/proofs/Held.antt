@@ -1,14 +1,13 @@
 -- What a reading of DSDs holds of their entries: the arrays, turn by turn, and that they are the numbers of a directory that rule 9 accepts.
 -- Assumes nothing.
-use Prim.Native.Nat.{ℕ, zero, suc, _+_, _*_, _-_, _≤_, _<_}
+use Prim.Native.Nat.{ℕ, zero, suc, _+_, _*_, _<_}
 use mathlib.Core.Bool.{Bool, true, false, not}
 use mathlib.Core.List.{List, [], _∷_, map, map-map}
 use mathlib.Core.Path.{_≡_, refl, sym, ap, _∙_}
 use native.Mathlib.Omega.{arith}
 use lib.Dec.{eqb}
 use lib.IntN.{ℤ, pos}
-use lib.ListN.{length, take, drop, length-drop}
-use lib.Seq.{length-take-le}
+use lib.ListN.{length}
 use borrow.Author.Tests.{eqb-true}
 use Rattle.layout.specs.Bytes.{part}
 use Rattle.layout.specs.Search.{find, upto, join}
@@ -112,15 +111,6 @@ module _ (ds : List Entry) (none : find (overAt ds) 0 (length ds) ≡ length ds)
       )
 
 -- ---- the texts
-
--- a part handed to a call
-module _ (p : List ℕ) (start end width : ℕ) (e : end ≡ start + width) (fits : end ≤ length p) where
-  pub part-is : take (end - start) (drop start p) ≡ part p start width
-  unfolding part
-  part-is = let q : end - start ≡ width = omega arith in rw q
-
-  pub part-long : length (take (end - start) (drop start p)) ≡ width
-  part-long = let q : end - start ≡ width = omega arith in rw q (length-take-le width (drop start p) (omega (arith, length-drop start p)))
 
 module _ (b : List ℕ) (from n : ℕ) where
   texts : (g : Entry → List ℕ) (place width total : ℕ) → ((i : ℕ) → textAt b from place width i ≡ g (entryFrom b from i))

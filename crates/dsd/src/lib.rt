@@ -222,20 +222,6 @@ impl Entry {
         self.set_fits()
     }
 
-    // How many entries in a row from the first on have numbers that fit, if `fitting` of those before this entry `i` do.
-    pub fn fitting_with(self, fitting: usize, i: usize) -> usize
-        requires { ⌜ i < 128 ⌝ }
-        ensures { λ r. ⌜ r ≡ cond (ltb fitting i) fitting (cond (numbersFit (viewOf self)) (i + 1) i) ⌝ }
-    {
-        if fitting < i {
-            return fitting;
-        }
-        if self.numbers_fit() {
-            return i + 1;
-        }
-        i
-    }
-
     // What NUM_DATA_SETS counts, if it counts `counted` before this entry (rule 11).
     pub fn counted_with(self, counted: usize) -> usize
         requires { ⌜ counted < 128 ⌝ }

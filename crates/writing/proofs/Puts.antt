@@ -62,6 +62,9 @@ pub lent-part : (l : List ℕ) (at n : ℕ) → take (at + n - at) (drop at l) �
 unfolding part
 lent-part l at n = let e : at + n - at ≡ n = omega arith in rw e
 
+pub lent-length : (l : List ℕ) (at n : ℕ) → at + n ≤ length l → length (take (at + n - at) (drop at l)) ≡ n
+lent-length l at n h = let e : at + n - at ≡ n = omega arith in rw e (length-take-le n (drop at l) (omega (arith, length-drop at l)))
+
 -- ---- what so many elements from a place on then are
 
 module _ {A : Type 0} where

@@ -6,7 +6,7 @@ use native.Mathlib.Omega.{arith}
 use lib.ListN.{length, take, drop}
 use Rattle.directory.specs.Texts.{textAt, textsFrom}
 use Rattle.directory.proofs.Arrays.{Copied, fits-one, none-copied, one-copied}
-use Rattle.directory.proofs.Held.{part-is, part-long}
+use Rattle.writing.proofs.Puts.{lent-part, lent-length}
 use Rattle.directory.proofs.copy_texts.Statement.{statement}
 use Rattle.directory.proofs.copy_texts.Tie as tie
 
@@ -48,7 +48,7 @@ put-text-requires c κs =
     let start = args .dsds + 280 * l .i + args .place in
     let inside : start + args .width ≤ length (args .p .now) = omega (arith, pre .inside, pre .within) in
     let room = fits-one (args .width) (l .i) (length (args .out .now)) (l .next) (l .inv .1 .wide) (omega (arith, pre .most)) (pre .room) in
-    omega (arith, room, l .inv .1 .long, part-long (args .p .now) start (start + args .width) (args .width) (omega arith) inside)
+    omega (arith, room, l .inv .1 .long, lent-length (args .p .now) start (args .width) inside)
 
 add-i : tie.Need-add-i Inv-loop μ-loop
 add-i c = omega arith
@@ -68,7 +68,7 @@ loop-again c =
     let room = fits-one (args .width) (l .i) (length (args .out .now)) (l .next) (l .inv .1 .wide) (omega (arith, pre .most)) (pre .room) in (
       omega arith,
       one-copied (textAt (args .p .now) (args .dsds) (args .place) (args .width)) (args .width) (length (args .out .now)) (l .out) (l .i) (l .next) (take (start + args .width - start) (drop start (args .p .now))) _ _ (l .inv .1) room
-          (part-is (args .p .now) start (start + args .width) (args .width) (omega arith) inside) (part-long (args .p .now) start (start + args .width) (args .width) (omega arith) inside) (put .written) (put .next),
+          (lent-part (args .p .now) start (args .width)) (lent-length (args .p .now) start (args .width) inside) (put .written) (put .next),
     )
 
 same-length : tie.Need-same-length Inv-loop μ-loop

@@ -1,12 +1,9 @@
 -- `values::fill` meets its contract: the bytes lent are as many as the room has.
 -- Assumes nothing.
-use Prim.Native.Nat.{_+_, _-_}
-use mathlib.Core.Path.{_≡_, _∙_}
-use native.Mathlib.Omega.{arith}
-use lib.ListN.{length, take, drop, length-drop}
-use lib.Seq.{length-take-le}
+use mathlib.Core.Path.{_∙_}
+use lib.ListN.{length}
 use borrow.Author.Needs.{needs}
-use Rattle.writing.proofs.Puts.{fills, lent-part}
+use Rattle.writing.proofs.Puts.{fills, lent-part, lent-length}
 use Rattle.values.proofs.fill.Statement.{statement}
 use Rattle.values.proofs.fill.Tie as tie
 
@@ -34,8 +31,7 @@ returns c =
     let p = start .args .p .now in
     let at = start .args .at in
     let n = length (start .args .d .now) in
-    let whole : length (take (at + n - at) (drop at p)) ≡ n = length-take-le (at + n - at) (drop at p) (omega (arith, length-drop at p, start .pre)) ∙ omega arith in
-    fills (c .before .before .put-text .ensures) whole ∙ lent-part p at n
+    fills (c .before .before .put-text .ensures) (lent-length p at n (start .pre)) ∙ lent-part p at n
 
 pub fill-spec : {M : Type 1} → statement M
 fill-spec =
