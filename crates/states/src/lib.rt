@@ -7,7 +7,7 @@ ghost use lib.ListN.{length};
 ghost use Rattle.layout.specs.Bytes.{part};
 ghost use Rattle.layout.specs.States.{sizeOfState, stateOf, stateFits, stateCount, tallyOf};
 ghost use Rattle.layout.specs.Records.{variableLengths};
-ghost use Rattle.states.specs.States.{stateIs, cap, capped, Capped, added, statesFrom, tallyIs, found};
+ghost use Rattle.states.specs.States.{stateIs, cap, capped, added, statesFrom, tallyIs, tally, withState, found};
 
 // Source 003, table 15.4.1.7.20-1.
 pub struct State {
@@ -80,20 +80,20 @@ pub struct Tally {
 // 2^62, at which a sum stops: the states of a product can total more than 64 bits hold.
 const CAP: u64 = 4611686018427387904;
 
+// A sum that is past it already stops there too.
 fn plus(sum: u64, more: u64) -> u64
-    requires { ⌜ (sum ≤ cap) × (more ≤ cap) ⌝ }
+    requires { ⌜ more ≤ cap ⌝ }
     ensures { λ r. ⌜ r ≡ capped (sum + more) ⌝ }
 {
-    let all = sum + more;
-    if CAP < all {
+    if CAP - more < sum {
         return CAP;
     }
-    all
+    sum + more
 }
 
 // So much more for one kind, if it is one of the four. In place: to copy all four right behind a store to one would wait for it.
 fn add_at(sums: &mut [u64; 4], kind: u8, more: u64)
-    requires { ⌜ Capped (now sums) × (more ≤ cap) ⌝ }
+    requires { ⌜ more ≤ cap ⌝ }
     ensures { λ _. ⌜ now (sums .exit) ≡ added (now (sums .entry)) kind more ⌝ }
 {
     if kind < 1 {
@@ -107,8 +107,8 @@ fn add_at(sums: &mut [u64; 4], kind: u8, more: u64)
 }
 
 // The number of the first state that does not fit, or how many there are, behind state i: one more only where all before it fit and it fits too.
-fn fitting(bad: usize, i: usize, fits: bool) -> usize
-    requires { ⌜ i < 9223372036854775807 ⌝ }
+fn bad_after(bad: usize, i: usize, fits: bool) -> usize
+    requires { ⌜ i < 18446744073709551615 ⌝ }
     ensures { λ r. ⌜ r ≡ cond (eqb bad i && fits) (bad + 1) bad ⌝ }
 {
     if bad != i {
@@ -118,6 +118,25 @@ fn fitting(bad: usize, i: usize, fits: bool) -> usize
         return bad + 1;
     }
     bad
+}
+
+// One more state, number i, for any tally: its sums are changed in place, and what `bad` is then is answered.
+pub fn add_state(
+    bad: usize,
+    counts: &mut [u64; 4],
+    totals: &mut [u64; 4],
+    state: State,
+    i: usize,
+) -> usize
+    requires { ⌜ i < 18446744073709551615 ⌝ }
+    ensures { λ r. ⌜ tally r (now (counts .exit)) (now (totals .exit)) ≡ withState (tally bad (now (counts .entry)) (now (totals .entry))) (stateIs state) i ⌝ }
+{
+    let kind = state.kind;
+    let more = state.adds_to(kind);
+    let bytes = more * state.record_length as u64;
+    add_at(counts, kind, more);
+    add_at(totals, kind, bytes);
+    bad_after(bad, i, state.fits())
 }
 
 // Of the states whose records begin at a place and follow each other.
@@ -132,12 +151,7 @@ pub fn tally_states(p: &[u8], start: usize, count: usize) -> Tally
     while i < count {
         let at = start + State::SIZE * i;
         let state = State::at(p, at);
-        let kind = state.kind;
-        let more = state.adds_to(kind);
-        let bytes = more * state.record_length as u64;
-        bad = fitting(bad, i, state.fits());
-        add_at(&mut counts, kind, more);
-        add_at(&mut totals, kind, bytes);
+        bad = add_state(bad, &mut counts, &mut totals, state, i);
         i += 1;
     }
     Tally {
