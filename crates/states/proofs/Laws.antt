@@ -241,7 +241,7 @@ ofKind-capped l kind = at l (kind - 1)
     at (n ∷ l) zero = refl
     at (n ∷ l) (suc i) = at l i
 
-sum-take : (j : ℕ) (ns : List ℕ) → sum (take j ns) ≤ sum ns
+pub sum-take : (j : ℕ) (ns : List ℕ) → sum (take j ns) ≤ sum ns
 unfolding sum
 sum-take zero ns = omega arith
 sum-take (suc j) [] = omega arith

@@ -44,6 +44,10 @@ added l kind more = cond (within 1 4 kind) (set l (kind - 1) (capped (ofKind l k
 unfoldable pub tallyIs : Tally → TallyRead
 tallyIs t = record { bad = t .bad; counts = map capped (t .counts); totals = map capped (t .totals) }
 
+-- what is held, capped or not, as the layout's tally
+unfoldable pub tallyFrom : TallyRead → Tally
+tallyFrom t = record { bad = t .bad; counts = t .counts; totals = t .totals }
+
 abbrev pub tally : ℕ → List ℕ → List ℕ → TallyRead
 tally bad counts totals = record { bad = bad; counts = counts; totals = totals }
 
