@@ -10,7 +10,7 @@ use Rattle.layout.specs.Entries.{directory, at}
 use Rattle.layout.specs.States.{statesOf}
 use Rattle.layout.specs.Records.{Span, lengths, recordAt, recordLength}
 use Rattle.layout.specs.Rules.{verdict}
-use Rattle.directory.specs.Checks.{setsOf}
+use Rattle.directory.specs.Numbers.{setsOf}
 use Rattle.directory.specs.declared.Sets.{Sets}
 
 -- an accepted product, and its directory's numbers

@@ -34,14 +34,9 @@ fn place_of_unequal(p: &[u8], sets: Sets, entry: usize, kind: u8, asked: usize) 
     requires { ⌜ Open (now p) sets × (entry < sets .entries) × (isVariable (at (directory (now p)) entry) ≡ true) × (kind ≡ kindOf (at (directory (now p)) entry)) ⌝ }
     ensures { λ r. ⌜ placeIs r ≡ placeIn (now (p .entry)) entry asked ⌝ }
 {
-    let entries = sets.entries;
-    let roles = sets.roles;
-    let i = variable::first_role(&roles, 0, entries, 5, 5);
+    let span = states::states_span(sets);
     let offsets = sets.offsets;
-    let counts = sets.counts;
-    let start = offsets[i] as usize;
-    let count = counts[i] as usize;
-    match states::find_record(p, start, count, kind, asked) {
+    match states::find_record(p, span.place as usize, span.count as usize, kind, asked) {
         Found::At { before, length } => Place::At {
             place: offsets[entry] + before,
             length,

@@ -22,8 +22,8 @@ use Rattle.states.specs.declared.State.{State as StateRead}
 use Rattle.states.specs.declared.Tally.{Tally}
 use Rattle.states.specs.declared.Found.{Found}
 use Rattle.states.specs.declared.Found.the-variants.{At, Nothing}
-use Rattle.states.specs.States.{stateIs, stateFrom, statesFrom, cap, capped, Capped, added, tallyIs, foundBehind, found}
-use Rattle.states.proofs.Sums.{zero-capped, capped-is, capped-plus, added-capped, left, left-none, left-step}
+use Rattle.states.specs.States.{stateIs, stateFrom, statesFrom, cap, capped, added, tallyIs, tally, withState, after, noTally, foundBehind, found}
+use Rattle.states.proofs.Sums.{zero-capped, capped-is, capped-plus, Capped, no-sums, added-capped, left, left-none, left-step}
 
 -- ---- the numbers of a state
 
@@ -121,23 +121,6 @@ states-of b ds = refl
 
 -- ---- the tally
 
--- one more state, number i
-unfoldable pub withState : Tally → State → ℕ → Tally
-withState t s i =
-    record {
-      bad = cond (eqb (t .bad) i && stateFits s) (t .bad + 1) (t .bad);
-      counts = added (t .counts) (s .kind) (stateCount (s .kind) s);
-      totals = added (t .totals) (s .kind) (stateBytes (s .kind) s);
-    }
-
--- a tally, when more states have been added, from number i on
-unfoldable pub after : Tally → ℕ → List State → Tally
-after t i [] = t
-after t i (s ∷ ss) = after (withState t s i) (i + 1) ss
-
-abbrev pub noTally : Tally
-noTally = record { bad = 0; counts = 0 ∷ 0 ∷ 0 ∷ 0 ∷ []; totals = 0 ∷ 0 ∷ 0 ∷ 0 ∷ [] }
-
 -- the number of states that fit goes on only from where all before fit
 bad-step : (bad i more : ℕ) (t : Bool) → bad ≤ i
     → cond (eqb (cond (eqb bad i && t) (bad + 1) bad) (i + 1)) (i + 1 + more) (cond (eqb bad i && t) (bad + 1) bad) ≡ cond (eqb bad i) (i + cond t (suc more) 0) bad
@@ -159,16 +142,16 @@ after-is t i [] e f h = λ j. record { bad = none j; counts = left-none stateCou
     none : t .bad ≡ cond (eqb (t .bad) i) (i + 0) (t .bad)
     none = ⊎-elim (λ l. rw (ne-eqb (t .bad) i (λ q. omega arith))) (λ l. rw (eq-eqb (t .bad) i (omega arith)) (omega arith)) (lt-or-le (t .bad) i)
 after-is t i (s ∷ ss) e f h =
-    after-is (withState t s i) (i + 1) ss (added-capped (t .counts) (s .kind) (stateCount (s .kind) s)) (added-capped (t .totals) (s .kind) (stateBytes (s .kind) s)) (bad-bound (t .bad) i (eqb (t .bad) i && stateFits s) h)
+    after-is (withState t s i) (i + 1) ss (added-capped (t .counts) (s .kind) (stateCount (s .kind) s) e) (added-capped (t .totals) (s .kind) (stateBytes (s .kind) s) f) (bad-bound (t .bad) i (eqb (t .bad) i && stateFits s) h)
     ∙ (λ j. record {
       bad = bad-step (t .bad) i (firstBad ss) (stateFits s) h j;
-      counts = left-step stateCount (t .counts) (s .kind) (stateCount (s .kind) s) s ss (own-count s) j;
-      totals = left-step stateBytes (t .totals) (s .kind) (stateBytes (s .kind) s) s ss (own-bytes s) j;
+      counts = left-step stateCount (t .counts) (s .kind) (stateCount (s .kind) s) s ss (e .four) (own-count s) j;
+      totals = left-step stateBytes (t .totals) (s .kind) (stateBytes (s .kind) s) s ss (f .four) (own-bytes s) j;
     })
 
 pub after-all : (ss : List State) → after noTally 0 ss ≡ tallyIs (tallyOf ss)
 unfolding tallyIs tallyOf left countOfKind totalOfKind
-after-all ss = after-is noTally 0 ss (simp zero-capped) (simp zero-capped) (omega arith) ∙ simp zero-add
+after-all ss = after-is noTally 0 ss no-sums no-sums (omega arith) ∙ simp zero-add
 
 -- one more state: what is left of the tally is the whole tally
 pub after-step : (b : List ℕ) (start n i : ℕ) (t u : Tally) (s : State) → i < n → s ≡ stateFrom b start i → u ≡ withState t s i
@@ -190,11 +173,6 @@ with-parts t u s i more fits e f b c d = λ j. record {
   counts = (c ∙ ap (added (t .counts) (s .kind)) e) j;
   totals = (d ∙ ap (λ (n : ℕ). added (t .totals) (s .kind) (n * s .«record_length»)) e) j;
 }
-
--- the sums stay capped
-pub with-capped : (t u : Tally) (s : State) (i : ℕ) → u ≡ withState t s i → Capped (u .counts) × Capped (u .totals)
-unfolding withState
-with-capped t u s i q = rw q (added-capped (t .counts) (s .kind) (stateCount (s .kind) s), added-capped (t .totals) (s .kind) (stateBytes (s .kind) s))
 
 -- ---- the records that states add to a set
 
@@ -263,7 +241,7 @@ ofKind-capped l kind = at l (kind - 1)
     at (n ∷ l) zero = refl
     at (n ∷ l) (suc i) = at l i
 
-sum-take : (j : ℕ) (ns : List ℕ) → sum (take j ns) ≤ sum ns
+pub sum-take : (j : ℕ) (ns : List ℕ) → sum (take j ns) ≤ sum ns
 unfolding sum
 sum-take zero ns = omega arith
 sum-take (suc j) [] = omega arith

@@ -1,2 +1,5 @@
 pub mod Sums
 pub mod Laws
+pub mod Roles
+pub mod Arrays
+pub mod Fits

@@ -1,19 +1,21 @@
 -- Capped sums: one, and those of the four kinds.
 -- Assumes nothing.
 use Prim.Native.Nat.{ℕ, zero, suc, _+_, _*_, _-_, _≤_, _<_}
-use mathlib.Core.Bool.{false, cond}
+use mathlib.Core.Bool.{Bool, true, false, cond, and-false}
 use mathlib.Core.List.{List, [], _∷_, map}
-use mathlib.Core.Logic.{_⊎_, ⊎-elim}
-use mathlib.Core.Path.{_≡_, sym, ap, _∙_}
+use mathlib.Core.Logic.{⊎-elim}
+use mathlib.Core.Path.{_≡_, refl, sym, ap, _∙_}
 use native.Mathlib.Omega.{arith}
-use native.Mathlib.Nat.{add-zero, add-assoc, mul-le-mul}
+use native.Mathlib.Nat.{add-zero, zero-add, add-assoc, mul-le-mul}
 use lib.Dec.{eqb}
-use lib.ListN.{getD, set}
-use borrow.Author.Tests.{le-leb, lt-leb, ne-eqb}
+use lib.ListN.{length, getD, set, replicate, length-set, getD-replicate}
+use lib.Seq.{ext-getD, getD-set-same, getD-set-other}
+use borrow.Author.Tests.{le-leb, lt-leb, ne-eqb, eqb-true, eqb-false}
+use Rattle.layout.specs.Bytes.{within}
 use Rattle.layout.specs.Search.{upto, sum}
-use Rattle.layout.specs.States.{State}
+use Rattle.layout.specs.States.{State, ofKind}
 use Rattle.layout.proofs.Laws.{lt-or-le}
-use Rattle.states.specs.States.{cap, capped, cappedAt, Capped, addedAt, added}
+use Rattle.states.specs.States.{cap, capped, added}
 
 -- ---- one sum
 
@@ -30,9 +32,6 @@ capped-stops n h = rw (lt-leb n cap h)
 
 pub capped-le : (n : ℕ) → capped n ≤ cap
 capped-le n = ⊎-elim (λ h. rw (capped-stops n h) (omega arith)) (λ h. rw (capped-is n h) h) (lt-or-le cap n)
-
-pub capped-twice : (n : ℕ) → capped (capped n) ≡ capped n
-capped-twice n = capped-is (capped n) (capped-le n)
 
 -- a sum capped on the way
 pub capped-plus : (n m : ℕ) → capped (capped n + m) ≡ capped (n + m)
@@ -53,55 +52,109 @@ bytes-small n m h l =
 
 -- ---- the four kinds
 
-module _ (l : List ℕ) (e : Capped l) where
-  pub capped-at : (i : ℕ) → getD l i 0 ≤ cap
-  capped-at i = rw (ap (λ (x : List ℕ). getD x i 0) e) (at i)
-    where
-      at : (i : ℕ) → getD (map (cappedAt l) (upto 1 4)) i 0 ≤ cap
-      at zero = capped-le (getD l 0 0)
-      at (suc zero) = capped-le (getD l 1 0)
-      at (suc (suc zero)) = capped-le (getD l 2 0)
-      at (suc (suc (suc zero))) = capped-le (getD l 3 0)
-      at (suc (suc (suc (suc i)))) = omega arith
+module _ (low high x : ℕ) where
+  pub within-in : low ≤ x → x ≤ high → within low high x ≡ true
+  within-in l h = rw (le-leb low x l, le-leb x high h)
 
+  pub within-below : x < low → within low high x ≡ false
+  within-below l = rw (lt-leb low x l)
+
+  pub within-above : high < x → within low high x ≡ false
+  within-above h = rw (lt-leb x high h, and-false)
+
+module _ (l : List ℕ) (kind more : ℕ) where
   -- a kind that is none of the four adds nothing
-  pub added-none : (kind more : ℕ) → (kind < 1) ⊎ (4 < kind) → l ≡ added l kind more
+  pub added-below : kind < 1 → l ≡ added l kind more
   unfolding added
-  added-none kind more h = e ∙ sym (rw (other 1 (omega arith) (omega arith), other 2 (omega arith) (omega arith), other 3 (omega arith) (omega arith), other 4 (omega arith) (omega arith)) (simp add-zero))
-    where
-      other : (k : ℕ) → 1 ≤ k → k ≤ 4 → eqb kind k ≡ false
-      other k l u = ne-eqb kind k (λ q. ⊎-elim (λ v. omega arith) (λ v. omega arith) h)
+  added-below h = rw (within-below 1 4 kind h)
+
+  pub added-above : 4 < kind → l ≡ added l kind more
+  unfolding added
+  added-above h = rw (within-above 1 4 kind h)
 
   -- one of the four is set
-  pub added-one : (kind more : ℕ) → 1 ≤ kind → kind ≤ 4 → set l (kind - 1) (capped (getD l (kind - 1) 0 + more)) ≡ added l kind more
-  unfolding added
-  added-one zero more h u = absurd (omega arith)
-  added-one (suc zero) more h u = ap (λ (x : List ℕ). set x 0 (capped (getD l 0 0 + more))) e ∙ simp add-zero
-  added-one (suc (suc zero)) more h u = ap (λ (x : List ℕ). set x 1 (capped (getD l 1 0 + more))) e ∙ simp add-zero
-  added-one (suc (suc (suc zero))) more h u = ap (λ (x : List ℕ). set x 2 (capped (getD l 2 0 + more))) e ∙ simp add-zero
-  added-one (suc (suc (suc (suc zero)))) more h u = ap (λ (x : List ℕ). set x 3 (capped (getD l 3 0 + more))) e ∙ simp add-zero
-  added-one (suc (suc (suc (suc (suc k))))) more h u = absurd (omega arith)
+  pub added-one : 1 ≤ kind → kind ≤ 4 → set l (kind - 1) (capped (getD l (kind - 1) 0 + more)) ≡ added l kind more
+  unfolding added ofKind
+  added-one h u = rw (within-in 1 4 kind h u)
 
-pub added-capped : (l : List ℕ) (kind more : ℕ) → Capped (added l kind more)
-unfolding added
-added-capped l kind more = simp capped-twice
+  abbrev Is : ℕ → Bool → Type 0
+  Is i t = getD (added l kind more) i 0 ≡ cond t (capped (getD l i 0 + more)) (getD l i 0)
+
+  -- so the sum of one kind is capped, and the others stay
+  added-at : (i : ℕ) → length l ≡ 4 → i < 4 → Is i (eqb kind (suc i))
+  added-at i four u = ⊎-elim below (λ lo. ⊎-elim above (λ hi. inside lo hi (eqb kind (suc i)) refl) (lt-or-le 4 kind)) (lt-or-le kind 1)
+    where
+      below : kind < 1 → Is i (eqb kind (suc i))
+      below h = rw (← added-below h, ne-eqb kind (suc i) (λ q. omega arith))
+
+      above : 4 < kind → Is i (eqb kind (suc i))
+      above h = rw (← added-above h, ne-eqb kind (suc i) (λ q. omega arith))
+
+      inside : 1 ≤ kind → kind ≤ 4 → (t : Bool) → eqb kind (suc i) ≡ t → Is i t
+      inside lo hi true q =
+          let same : kind - 1 ≡ i = omega (arith, eqb-true kind (suc i) q) in
+          rw (← added-one lo hi, same) (getD-set-same l i (capped (getD l i 0 + more)) 0 (omega arith))
+      inside lo hi false q = rw (← added-one lo hi) (getD-set-other l (kind - 1) i (capped (getD l (kind - 1) 0 + more)) 0 (λ e. eqb-false kind (suc i) q (omega arith)))
+
+  -- any list stays as long as it is
+  added-length : length (added l kind more) ≡ length l
+  unfolding added
+  added-length = go (within 1 4 kind)
+    where
+      go : (t : Bool) → length (cond t (set l (kind - 1) (capped (ofKind l kind + more))) l) ≡ length l
+      go true = length-set l (kind - 1) (capped (ofKind l kind + more))
+      go false = refl
+
+-- four sums, each capped
+pub record Capped (l : List ℕ) : Type 0 where
+  pub four : length l ≡ 4
+  pub low : (i : ℕ) → i < 4 → getD l i 0 ≤ cap
+
+pub no-sums : Capped (replicate 4 0)
+no-sums = record { four = refl; low = low }
+  where
+    low : (i : ℕ) → i < 4 → getD (replicate 4 0) i 0 ≤ cap
+    low i h = rw (getD-replicate {A = ℕ} 4 i 0 0 h) (omega arith)
+
+pub added-capped : (l : List ℕ) (kind more : ℕ) → Capped l → Capped (added l kind more)
+added-capped l kind more c = record { four = added-length l kind more ∙ c .four; low = low }
+  where
+    go : (x : ℕ) (t : Bool) → x ≤ cap → cond t (capped (x + more)) x ≤ cap
+    go x true h = capped-le (x + more)
+    go x false h = h
+
+    low : (i : ℕ) → i < 4 → getD (added l kind more) i 0 ≤ cap
+    low i h = rw (added-at l kind more i (c .four) h) (go (getD l i 0) (eqb kind (suc i)) (c .low i h))
+
+by-places : (l m : List ℕ) → length l ≡ 4 → length m ≡ 4 → ((i : ℕ) → i < 4 → getD l i 0 ≡ getD m i 0) → l ≡ m
+by-places l m e f h = ext-getD 0 l m (e ∙ sym f) (λ i u. h i (omega arith))
 
 -- ---- sums that more states are to be added to
 
 module _ (g : ℕ → State → ℕ) where
-  abbrev pub leftAt : List ℕ → List State → ℕ → ℕ
-  leftAt l ss k = capped (getD l (k - 1) 0 + sum (map (g k) ss))
-
   unfoldable pub left : List ℕ → List State → List ℕ
-  left l ss = map (leftAt l ss) (upto 1 4)
+  left l ss = map (λ k. capped (getD l (k - 1) 0 + sum (map (g k) ss))) (upto 1 4)
+
+  left-at : (l : List ℕ) (ss : List State) (i : ℕ) → i < 4 → getD (left l ss) i 0 ≡ capped (getD l i 0 + sum (map (g (suc i)) ss))
+  unfolding left
+  left-at l ss zero h = refl
+  left-at l ss (suc zero) h = refl
+  left-at l ss (suc (suc zero)) h = refl
+  left-at l ss (suc (suc (suc zero))) h = refl
+  left-at l ss (suc (suc (suc (suc i)))) h = absurd (omega arith)
+
+  left-length : (l : List ℕ) (ss : List State) → length (left l ss) ≡ 4
+  unfolding left
+  left-length l ss = refl
 
   pub left-none : (l : List ℕ) → Capped l → l ≡ left l []
-  unfolding left sum
-  left-none l e = e ∙ simp add-zero
+  unfolding sum
+  left-none l c = by-places l (left l []) (c .four) (left-length l []) (λ i h. sym (rw (left-at l [] i h, add-zero) (capped-is (getD l i 0) (c .low i h))))
 
-  pub left-step : (l : List ℕ) (kind more : ℕ) (s : State) (ss : List State) → ((k : ℕ) → cond (eqb kind k) more 0 ≡ g k s) → left (added l kind more) ss ≡ left l (s ∷ ss)
-  unfolding left added sum
-  left-step l kind more s ss h = λ j. at 1 j ∷ at 2 j ∷ at 3 j ∷ at 4 j ∷ []
+  pub left-step : (l : List ℕ) (kind more : ℕ) (s : State) (ss : List State) → length l ≡ 4 → ((k : ℕ) → cond (eqb kind k) more 0 ≡ g k s) → left (added l kind more) ss ≡ left l (s ∷ ss)
+  unfolding sum
+  left-step l kind more s ss e q = by-places (left (added l kind more) ss) (left l (s ∷ ss)) (left-length (added l kind more) ss) (left-length l (s ∷ ss)) (λ i h. rw (left-at (added l kind more) ss i h, left-at l (s ∷ ss) i h, added-at l kind more i e h, ← q (suc i)) (go (getD l i 0) (sum (map (g (suc i)) ss)) (eqb kind (suc i))))
     where
-      at : (k : ℕ) → capped (addedAt l kind more k + sum (map (g k) ss)) ≡ capped (getD l (k - 1) 0 + (g k s + sum (map (g k) ss)))
-      at k = rw (capped-plus, h k, add-assoc)
+      go : (x n : ℕ) (t : Bool) → capped (cond t (capped (x + more)) x + n) ≡ capped (x + (cond t more 0 + n))
+      go x n true = rw (capped-plus, add-assoc)
+      go x n false = rw zero-add

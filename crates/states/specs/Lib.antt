@@ -1,1 +1,3 @@
 pub mod States
+pub mod Roles
+pub mod Laid

@@ -2,14 +2,14 @@
 -- product can hold, can total 4.4e20 bytes.
 -- Assumes nothing.
 use Prim.Native.Nat.{ℕ, _+_, _*_, _-_}
-use mathlib.Core.Bool.{cond}
-use mathlib.Core.List.{List, map}
+use mathlib.Core.Bool.{cond, _&&_}
+use mathlib.Core.List.{List, [], _∷_, map}
 use mathlib.Core.Path.{_≡_}
 use lib.Dec.{leb, ltb, eqb}
-use lib.ListN.{length, take, getD}
-use Rattle.layout.specs.Bytes.{part}
+use lib.ListN.{length, take, getD, set, replicate}
+use Rattle.layout.specs.Bytes.{part, within}
 use Rattle.layout.specs.Search.{upto, sum}
-use Rattle.layout.specs.States.{State, stateOf, Tally}
+use Rattle.layout.specs.States.{State, stateOf, stateFits, stateCount, stateBytes, Tally, ofKind}
 use Rattle.states.specs.declared.State.{State as StateRead}
 use Rattle.states.specs.declared.Tally.{Tally as TallyRead}
 use Rattle.states.specs.declared.Found.{Found}
@@ -34,25 +34,39 @@ cap = 4611686018427387904
 unfoldable pub capped : ℕ → ℕ
 capped n = cond (leb n cap) n cap
 
--- four capped sums, those of kinds 1 to 4
-abbrev pub cappedAt : List ℕ → ℕ → ℕ
-cappedAt l kind = capped (getD l (kind - 1) 0)
-
-abbrev pub Capped : List ℕ → Type 0
-Capped l = l ≡ map (cappedAt l) (upto 1 4)
-
--- so much more for one kind
-abbrev pub addedAt : List ℕ → ℕ → ℕ → ℕ → ℕ
-addedAt l kind more k = capped (getD l (k - 1) 0 + cond (eqb kind k) more 0)
-
+-- so much more for one of the kinds 1 to 4; of any sums, and the others stay
 unfoldable pub added : List ℕ → ℕ → ℕ → List ℕ
-added l kind more = map (addedAt l kind more) (upto 1 4)
+added l kind more = cond (within 1 4 kind) (set l (kind - 1) (capped (ofKind l kind + more))) l
 
 -- ---- the tally
 
 -- the tally with its sums capped
 unfoldable pub tallyIs : Tally → TallyRead
 tallyIs t = record { bad = t .bad; counts = map capped (t .counts); totals = map capped (t .totals) }
+
+-- what is held, capped or not, as the layout's tally
+unfoldable pub tallyFrom : TallyRead → Tally
+tallyFrom t = record { bad = t .bad; counts = t .counts; totals = t .totals }
+
+abbrev pub tally : ℕ → List ℕ → List ℕ → TallyRead
+tally bad counts totals = record { bad = bad; counts = counts; totals = totals }
+
+-- a tally with one more state, number i
+unfoldable pub withState : TallyRead → State → ℕ → TallyRead
+withState t s i =
+    tally
+    (cond (eqb (t .bad) i && stateFits s) (t .bad + 1) (t .bad))
+    (added (t .counts) (s .kind) (stateCount (s .kind) s))
+    (added (t .totals) (s .kind) (stateBytes (s .kind) s))
+
+-- with more states, from number i on
+unfoldable pub after : TallyRead → ℕ → List State → TallyRead
+after t i [] = t
+after t i (s ∷ ss) = after (withState t s i) (i + 1) ss
+
+-- before the first state
+abbrev pub noTally : TallyRead
+noTally = tally 0 (replicate 4 0) (replicate 4 0)
 
 -- ---- records of a variable set
 

@@ -1,13 +1,20 @@
-// State records, their tally, and where a record of a variable set lies (document 01, "State records and unequal lengths").
+// State records, their tally, rules 15 and 16 by it, and where a record of a variable set lies (document 01, "State records and unequal lengths").
 ghost use mathlib.Core.Bool.{cond, _&&_};
 ghost use mathlib.Core.Path.{_≡_};
 ghost use lib.Dec.{eqb};
-ghost use Prim.Native.Nat.{_+_, _*_, _≤_, _<_};
+ghost use Prim.Native.Nat.{ℕ, _+_, _*_, _-_, _≤_, _<_};
 ghost use lib.ListN.{length};
+ghost use Rattle.layout.specs.Answers.{verdictIs};
 ghost use Rattle.layout.specs.Bytes.{part};
-ghost use Rattle.layout.specs.States.{sizeOfState, stateOf, stateFits, stateCount, tallyOf};
 ghost use Rattle.layout.specs.Records.{variableLengths};
-ghost use Rattle.states.specs.States.{stateIs, cap, capped, Capped, added, statesFrom, tallyIs, found};
+ghost use Rattle.layout.specs.Rules.{stateRules};
+ghost use Rattle.layout.specs.Search.{find};
+ghost use Rattle.layout.specs.States.{sizeOfState, stateOf, stateFits, stateCount, statesOf, tallyOf};
+ghost use Rattle.states.specs.States.{stateIs, cap, capped, added, statesFrom, tallyIs, tally, tallyFrom, withState, found};
+ghost use Rattle.states.specs.Roles.{roleWithin, onlyStates, unfilled, unfilledAt, rule16By, describedBy};
+ghost use Rattle.states.specs.Laid.{Laid, Every, spanOf};
+use directory::Sets;
+use layout::Verdict;
 
 // Source 003, table 15.4.1.7.20-1.
 pub struct State {
@@ -80,20 +87,20 @@ pub struct Tally {
 // 2^62, at which a sum stops: the states of a product can total more than 64 bits hold.
 const CAP: u64 = 4611686018427387904;
 
+// A sum that is past it already stops there too.
 fn plus(sum: u64, more: u64) -> u64
-    requires { ⌜ (sum ≤ cap) × (more ≤ cap) ⌝ }
+    requires { ⌜ more ≤ cap ⌝ }
     ensures { λ r. ⌜ r ≡ capped (sum + more) ⌝ }
 {
-    let all = sum + more;
-    if CAP < all {
+    if CAP - more < sum {
         return CAP;
     }
-    all
+    sum + more
 }
 
 // So much more for one kind, if it is one of the four. In place: to copy all four right behind a store to one would wait for it.
 fn add_at(sums: &mut [u64; 4], kind: u8, more: u64)
-    requires { ⌜ Capped (now sums) × (more ≤ cap) ⌝ }
+    requires { ⌜ more ≤ cap ⌝ }
     ensures { λ _. ⌜ now (sums .exit) ≡ added (now (sums .entry)) kind more ⌝ }
 {
     if kind < 1 {
@@ -107,8 +114,8 @@ fn add_at(sums: &mut [u64; 4], kind: u8, more: u64)
 }
 
 // The number of the first state that does not fit, or how many there are, behind state i: one more only where all before it fit and it fits too.
-fn fitting(bad: usize, i: usize, fits: bool) -> usize
-    requires { ⌜ i < 9223372036854775807 ⌝ }
+fn bad_after(bad: usize, i: usize, fits: bool) -> usize
+    requires { ⌜ i < 18446744073709551615 ⌝ }
     ensures { λ r. ⌜ r ≡ cond (eqb bad i && fits) (bad + 1) bad ⌝ }
 {
     if bad != i {
@@ -118,6 +125,25 @@ fn fitting(bad: usize, i: usize, fits: bool) -> usize
         return bad + 1;
     }
     bad
+}
+
+// One more state, number i, for any tally: its sums are changed in place, and what `bad` is then is answered.
+pub fn add_state(
+    bad: usize,
+    counts: &mut [u64; 4],
+    totals: &mut [u64; 4],
+    state: State,
+    i: usize,
+) -> usize
+    requires { ⌜ i < 18446744073709551615 ⌝ }
+    ensures { λ r. ⌜ tally r (now (counts .exit)) (now (totals .exit)) ≡ withState (tally bad (now (counts .entry)) (now (totals .entry))) (stateIs state) i ⌝ }
+{
+    let kind = state.kind;
+    let more = state.adds_to(kind);
+    let bytes = more * state.record_length as u64;
+    add_at(counts, kind, more);
+    add_at(totals, kind, bytes);
+    bad_after(bad, i, state.fits())
 }
 
 // Of the states whose records begin at a place and follow each other.
@@ -132,12 +158,7 @@ pub fn tally_states(p: &[u8], start: usize, count: usize) -> Tally
     while i < count {
         let at = start + State::SIZE * i;
         let state = State::at(p, at);
-        let kind = state.kind;
-        let more = state.adds_to(kind);
-        let bytes = more * state.record_length as u64;
-        bad = fitting(bad, i, state.fits());
-        add_at(&mut counts, kind, more);
-        add_at(&mut totals, kind, bytes);
+        bad = add_state(bad, &mut counts, &mut totals, state, i);
         i += 1;
     }
     Tally {
@@ -177,4 +198,180 @@ pub fn find_record(p: &[u8], start: usize, count: usize, kind: u8, asked: usize)
         i += 1;
     }
     Found::Nothing
+}
+
+// ---- rules 15 and 16, by the numbers of a directory's entries
+
+// The first entry from `from` on whose role lies between two, or the number of entries. Roles 1 to 4 are variable sets, 5 is the states.
+fn first_role(roles: &[u8; 128], from: usize, entries: usize, low: u8, high: u8) -> usize
+    requires { ⌜ (from ≤ entries) × (entries ≤ 128) ⌝ }
+    ensures { λ r. ⌜ r ≡ find (roleWithin (now (roles .entry)) low high) from (entries - from) ⌝ }
+{
+    let mut i = from;
+    while i < entries {
+        let role = roles[i];
+        if low <= role {
+            if role <= high {
+                return i;
+            }
+        }
+        i += 1;
+    }
+    entries
+}
+
+// The entry that describes the states, if exactly one does, else the number of entries.
+fn only_states(roles: &[u8; 128], entries: usize) -> usize
+    requires { ⌜ entries ≤ 128 ⌝ }
+    ensures { λ r. ⌜ r ≡ onlyStates (now (roles .entry)) entries ⌝ }
+{
+    let i = first_role(roles, 0, entries, 5, 5);
+    if i == entries {
+        return entries;
+    }
+    if first_role(roles, i + 1, entries, 5, 5) != entries {
+        return entries;
+    }
+    i
+}
+
+// Where the states begin that rules 15 and 16 look at, and how many there are: 0 and 0 where these look at none.
+pub struct StatesSpan {
+    pub place: u64,
+    pub count: u64,
+}
+
+pub fn states_span(sets: Sets) -> StatesSpan
+    requires { ⌜ ((n : ℕ) × Laid sets n) ⌝ }
+    ensures { λ r. ⌜ Every sets (λ ds. r ≡ spanOf ds) ⌝ }
+{
+    let entries = sets.entries;
+    let roles = sets.roles;
+    let i = only_states(&roles, entries);
+    if i == entries {
+        return StatesSpan { place: 0, count: 0 };
+    }
+    let sizes = sets.sizes;
+    let counts = sets.counts;
+    let offsets = sets.offsets;
+    let size = sizes[i];
+    let count = counts[i];
+    if size == 0 {
+        return StatesSpan { place: 0, count: 0 };
+    }
+    if size != State::SIZE as u64 * count {
+        return StatesSpan { place: 0, count: 0 };
+    }
+    StatesSpan {
+        place: offsets[i],
+        count,
+    }
+}
+
+// A variable set whose records, of which there are so many of each kind with so many bytes, do not fill it.
+fn is_unfilled(role: u8, count: u64, size: u64, tallied: [u64; 4], totals: [u64; 4]) -> bool
+    ensures { λ r. ⌜ r ≡ unfilled role count size tallied totals ⌝ }
+{
+    if role < 1 {
+        return false;
+    }
+    if 4 < role {
+        return false;
+    }
+    let kind = (role - 1) as usize;
+    if tallied[kind] != count {
+        return true;
+    }
+    totals[kind] != size
+}
+
+// Rule 16: the first variable set that its states do not fill, or the number of entries.
+fn first_unfilled(sets: Sets, tallied: [u64; 4], totals: [u64; 4]) -> usize
+    requires { ⌜ sets .entries ≤ 128 ⌝ }
+    ensures { λ r. ⌜ r ≡ find (unfilledAt (sets .roles) (sets .counts) (sets .sizes) tallied totals) 0 (sets .entries) ⌝ }
+{
+    let entries = sets.entries;
+    let roles = sets.roles;
+    let counts = sets.counts;
+    let sizes = sets.sizes;
+    let mut i = 0;
+    while i < entries {
+        if is_unfilled(roles[i], counts[i], sizes[i], tallied, totals) {
+            return i;
+        }
+        i += 1;
+    }
+    entries
+}
+
+// Rule 16, where the states are tallied.
+fn judge_filled(sets: Sets, tallied: [u64; 4], totals: [u64; 4]) -> Verdict
+    requires { ⌜ sets .entries ≤ 128 ⌝ }
+    ensures { λ r. ⌜ verdictIs r ≡ rule16By sets tallied totals ⌝ }
+{
+    let entries = sets.entries;
+    let unfilled = first_unfilled(sets, tallied, totals);
+    if unfilled == entries {
+        return Verdict::Accepted;
+    }
+    let offsets = sets.offsets;
+    Verdict::refuse(16, offsets[unfilled], unfilled)
+}
+
+// Rules 15 and 16 by a tally, where entry i and no other describes the states.
+fn judge_described(sets: Sets, i: usize, tally: Tally) -> Verdict
+    requires { ⌜ ((n : ℕ) × Laid sets n) × (i < sets .entries) × (i ≡ onlyStates (sets .roles) (sets .entries)) ⌝ }
+    ensures { λ r. ⌜ verdictIs r ≡ describedBy sets i tally ⌝ }
+{
+    let tallied = tally.counts;
+    let totals = tally.totals;
+    let sizes = sets.sizes;
+    let counts = sets.counts;
+    let offsets = sets.offsets;
+    let size = sizes[i];
+    let count = counts[i];
+    let place = offsets[i];
+    if size == 0 {
+        return judge_filled(sets, tallied, totals);
+    }
+    if size != State::SIZE as u64 * count {
+        return Verdict::refuse(15, place, i);
+    }
+    let bad = tally.bad as u64;
+    if bad < count {
+        return Verdict::refuse(15, place + State::SIZE as u64 * bad, i);
+    }
+    judge_filled(sets, tallied, totals)
+}
+
+// Rules 15 and 16 by any tally of the states that these look at.
+pub fn judge_tally(sets: Sets, tally: Tally) -> Verdict
+    requires { ⌜ ((n : ℕ) × Laid sets n) ⌝ }
+    ensures { λ r. ⌜ Every sets (λ ds. verdictIs r ≡ stateRules ds (tallyFrom tally)) ⌝ }
+{
+    let entries = sets.entries;
+    let roles = sets.roles;
+    if first_role(&roles, 0, entries, 1, 4) == entries {
+        return Verdict::Accepted;
+    }
+    let i = only_states(&roles, entries);
+    if i == entries {
+        return Verdict::refuse(15, 0, 128);
+    }
+    judge_described(sets, i, tally)
+}
+
+// Rules 15 and 16 of a product lent whole. Where it has no variable set, the states are not looked at.
+pub fn judge_states(p: &[u8], sets: Sets) -> Verdict
+    requires { ⌜ Laid sets (length (now p)) ⌝ }
+    ensures { λ r. ⌜ Every sets (λ ds. verdictIs r ≡ stateRules ds (tallyOf (statesOf (now (p .entry)) ds))) ⌝ }
+{
+    let entries = sets.entries;
+    let roles = sets.roles;
+    if first_role(&roles, 0, entries, 1, 4) == entries {
+        return Verdict::Accepted;
+    }
+    let span = states_span(sets);
+    let tally = tally_states(p, span.place as usize, span.count as usize);
+    judge_tally(sets, tally)
 }

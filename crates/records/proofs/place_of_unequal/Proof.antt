@@ -3,41 +3,32 @@
 use mathlib.Core.Path.{sym, _∙_}
 use native.Mathlib.Omega.{arith}
 use Rattle.layout.specs.Answers.{placeIs}
-use native.Mathlib.Nat.{sub-zero}
-use Rattle.records.proofs.Laws.{entries-few, states-there, states-inside, unequal-inside, unequal-record, no-unequal}
+use Rattle.records.proofs.Laws.{laid, entries-few, states-inside, unequal-inside, unequal-record, no-unequal}
 use borrow.Author.Needs.{needs}
 use Rattle.records.proofs.place_of_unequal.Statement.{statement}
 use Rattle.records.proofs.place_of_unequal.Tie as tie
 
-first-role-requires : tie.Need-first-role-requires
-first-role-requires c κs = (omega arith, entries-few _ _ (c .before .before .before .pre .0))
-
-mul-start : tie.Need-mul-start
-mul-start c = omega (arith, entries-few _ _ (c .before .before .before .before .before .before .pre .0), states-there _ _ (c .before .before .before .before .before .before .pre .0) _ (c .before .before .before .before .before .before .pre .1) (c .before .before .before .before .before .before .pre .2) _ (rw sub-zero at (c .before .before .first-role .ensures)))
-
-array-read-start : tie.Need-array-read-start
-array-read-start c = omega (arith, entries-few _ _ (c .before .before .before .before .before .before .pre .0), states-there _ _ (c .before .before .before .before .before .before .pre .0) _ (c .before .before .before .before .before .before .pre .1) (c .before .before .before .before .before .before .pre .2) _ (rw sub-zero at (c .before .before .first-role .ensures)))
-
-mul-count : tie.Need-mul-count
-mul-count c = omega (arith, entries-few _ _ (c .before .before .before .before .before .before .pre .0), states-there _ _ (c .before .before .before .before .before .before .pre .0) _ (c .before .before .before .before .before .before .pre .1) (c .before .before .before .before .before .before .pre .2) _ (rw sub-zero at (c .before .before .first-role .ensures)))
-
-array-read-count : tie.Need-array-read-count
-array-read-count c = omega (arith, entries-few _ _ (c .before .before .before .before .before .before .pre .0), states-there _ _ (c .before .before .before .before .before .before .pre .0) _ (c .before .before .before .before .before .before .pre .1) (c .before .before .before .before .before .before .pre .2) _ (rw sub-zero at (c .before .before .first-role .ensures)))
+states-span-requires : tie.Need-states-span-requires
+states-span-requires c κs = (_, laid _ _ (c .before .pre .0))
 
 find-record-requires : tie.Need-find-record-requires
-find-record-requires c κs = states-inside _ _ (c .before .before .before .before .before .before .pre .0) _ (c .before .before .before .before .before .before .pre .1) (c .before .before .before .before .before .before .pre .2) _ (rw sub-zero at (c .before .before .first-role .ensures))
+find-record-requires c κs =
+    let s = c .before .before .before in
+    states-inside _ _ (s .pre .0) _ (s .pre .1) (s .pre .2) _ (c .before .states-span .ensures)
 
 enum-known-before : tie.Need-enum-known-before
 enum-known-before c = search needs
 
-mul-t24 : tie.Need-mul-t24
-mul-t24 c = omega (arith, entries-few _ _ (c .before .before .before .before .before .before .before .before .before .before .pre .0))
+mul-t14 : tie.Need-mul-t14
+mul-t14 c = omega (arith, entries-few _ _ (c .before .before .before .before .before .before .before .pre .0))
 
-array-read-t27 : tie.Need-array-read-t27
-array-read-t27 c = omega (arith, entries-few _ _ (c .before .before .before .before .before .before .before .before .before .before .pre .0))
+array-read-t17 : tie.Need-array-read-t17
+array-read-t17 c = omega (arith, entries-few _ _ (c .before .before .before .before .before .before .before .pre .0))
 
-add-t28 : tie.Need-add-t28
-add-t28 c = omega (arith, unequal-inside _ _ (c .before .before .before .before .before .before .before .before .before .before .pre .0) _ (c .before .before .before .before .before .before .before .before .before .before .pre .1) (c .before .before .before .before .before .before .before .before .before .before .pre .2) _ (rw sub-zero at (c .before .before .before .before .before .before .first-role .ensures)) _ _ (c .before .before .before .before .before .before .before .before .before .before .pre .3) _ _ (sym (c .before .before2 .given .1) ∙ c .before .before .before .find-record .ensures))
+add-t18 : tie.Need-add-t18
+add-t18 c =
+    let s = c .before .before .before .before .before .before .before in
+    omega (arith, unequal-inside _ _ (s .pre .0) _ (s .pre .1) (s .pre .2) _ (c .before .before .before .before .before .states-span .ensures) _ _ (s .pre .3) _ _ (sym (c .before .before2 .given .1) ∙ c .before .before .before .find-record .ensures))
 
 enum-told : tie.Need-enum-told
 enum-told c = search needs
@@ -47,25 +38,25 @@ refuse-requires c κs = search needs
 
 returns : tie.Need-returns
 unfolding placeIs
-returns c = unequal-record _ _ (c .before .before .before .before .before .before .before .before .before .before .pre .0) _ (c .before .before .before .before .before .before .before .before .before .before .pre .1) (c .before .before .before .before .before .before .before .before .before .before .pre .2) _ (rw sub-zero at (c .before .before .before .before .before .before .first-role .ensures)) _ _ (c .before .before .before .before .before .before .before .before .before .before .pre .3) _ _ (sym (c .before .before2 .given .1) ∙ c .before .before .before .find-record .ensures)
+returns c =
+    let s = c .before .before .before .before .before .before .before in
+    unequal-record _ _ (s .pre .0) _ (s .pre .1) (s .pre .2) _ (c .before .before .before .before .before .states-span .ensures) _ _ (s .pre .3) _ _ (sym (c .before .before2 .given .1) ∙ c .before .before .before .find-record .ensures)
 
 returns-2 : tie.Need-returns-2
-returns-2 c = c .refuse .ensures ∙ no-unequal _ _ (c .before .before .before .before .before .before .before .before .before .before .pre .0) _ (c .before .before .before .before .before .before .before .before .before .before .pre .1) (c .before .before .before .before .before .before .before .before .before .before .pre .2) _ (rw sub-zero at (c .before .before .before .before .before .before .first-role .ensures)) _ _ (c .before .before .before .before .before .before .before .before .before .before .pre .3) (sym (c .before .enum-told .given .1) ∙ c .before .before .before .find-record .ensures)
+returns-2 c =
+    let s = c .before .before .before .before .before .before .before in
+    c .refuse .ensures ∙ no-unequal _ _ (s .pre .0) _ (s .pre .1) (s .pre .2) _ (c .before .before .before .before .before .states-span .ensures) _ _ (s .pre .3) (sym (c .before .enum-told .given .1) ∙ c .before .before .before .find-record .ensures)
 
 pub place-of-unequal-spec : {M : Type 1} → statement M
 place-of-unequal-spec =
     tie.close
     (tie.spec
-    first-role-requires
-    mul-start
-    array-read-start
-    mul-count
-    array-read-count
+    states-span-requires
     find-record-requires
     enum-known-before
-    mul-t24
-    array-read-t27
-    add-t28
+    mul-t14
+    array-read-t17
+    add-t18
     enum-told
     refuse-requires
     returns

@@ -1,17 +1,16 @@
 -- `states::add_at` meets its contract.
 -- Assumes nothing.
-use mathlib.Core.Logic.{inl, inr}
 use native.Mathlib.Omega.{arith}
-use Rattle.states.proofs.Sums.{capped-at, added-none, added-one}
+use Rattle.states.proofs.Sums.{added-below, added-above, added-one}
 use borrow.Author.Needs.{needs}
 use Rattle.states.proofs.add_at.Statement.{statement}
 use Rattle.states.proofs.add_at.Tie as tie
 
 returns : tie.Need-returns
-returns c = added-none _ (c .before .pre .0) _ _ (inl (c .if1 .taken))
+returns c = added-below _ _ _ (c .if1 .taken)
 
 returns-2 : tie.Need-returns-2
-returns-2 c = added-none _ (c .before .before .pre .0) _ _ (inr (c .if2 .taken))
+returns-2 c = added-above _ _ _ (c .if2 .taken)
 
 cast-place : tie.Need-cast-place
 cast-place c = search needs
@@ -23,7 +22,7 @@ element-copy-out-plus : tie.Need-element-copy-out-plus
 element-copy-out-plus c = search needs
 
 plus-requires : tie.Need-plus-requires
-plus-requires c κs = (capped-at _ (c .before .before .before .pre .0) _, c .before .before .before .pre .1)
+plus-requires c κs = search needs
 
 mul-sums : tie.Need-mul-sums
 mul-sums c = search needs
@@ -34,7 +33,7 @@ element-write-sums c = search needs
 returns-3 : tie.Need-returns-3
 returns-3 c =
     let a = c .before .before .before .before .args in
-    rw (c .plus .ensures) (added-one (a .sums .now) (c .before .before .before .before .pre .0) (a .kind) (a .more) (omega arith) (omega arith))
+    rw (c .plus .ensures) (added-one (a .sums .now) (a .kind) (a .more) (omega arith) (omega arith))
 
 pub add-at-spec : {M : Type 1} → statement M
 add-at-spec =

@@ -1,12 +1,12 @@
--- `variable::judge_filled` meets its contract.
+-- `states::judge_filled` meets its contract.
 -- Assumes nothing.
 use mathlib.Core.Path.{_∙_}
 use native.Mathlib.Omega.{arith}
 use Rattle.layout.specs.Answers.{verdictIs}
-use Rattle.variable.proofs.Roles.{all-filled, one-unfilled, unfilled-inside}
+use Rattle.states.proofs.Roles.{all-filled, one-unfilled, unfilled-inside}
 use borrow.Author.Needs.{needs}
-use Rattle.variable.proofs.judge_filled.Statement.{statement}
-use Rattle.variable.proofs.judge_filled.Tie as tie
+use Rattle.states.proofs.judge_filled.Statement.{statement}
+use Rattle.states.proofs.judge_filled.Tie as tie
 
 first-unfilled-requires : tie.Need-first-unfilled-requires
 first-unfilled-requires c κs = search needs

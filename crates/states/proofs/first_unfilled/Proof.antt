@@ -1,4 +1,4 @@
--- `variable::first_unfilled` meets its contract: what is left of the search from `i` on is the whole search.
+-- `states::first_unfilled` meets its contract: what is left of the search from `i` on is the whole search.
 -- Assumes nothing.
 use Prim.Native.Nat.{_≤_, _-_}
 use mathlib.Core.Path.{_≡_, refl, sym, _∙_}
@@ -7,9 +7,9 @@ use native.Mathlib.Nat.{sub-zero}
 use borrow.Author.Needs.{needs}
 use Rattle.layout.specs.Search.{find}
 use Rattle.layout.proofs.Laws.{find-hit, find-next, find-none}
-use Rattle.variable.specs.Roles.{unfilledAt}
-use Rattle.variable.proofs.first_unfilled.Statement.{statement}
-use Rattle.variable.proofs.first_unfilled.Tie as tie
+use Rattle.states.specs.Roles.{unfilledAt}
+use Rattle.states.proofs.first_unfilled.Statement.{statement}
+use Rattle.states.proofs.first_unfilled.Tie as tie
 
 abbrev Inv-loop : tie.InvT-loop
 Inv-loop tallied totals entries roles counts sizes i₀ i =

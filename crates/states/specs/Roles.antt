@@ -1,23 +1,23 @@
--- Rules 15 and 16 by the arrays of a directory, and what their check goes by.
+-- Rules 15 and 16 by the arrays of a directory.
 -- Assumes nothing.
-use Prim.Native.Nat.{ℕ, _-_}
-use mathlib.Core.Bool.{Bool, _&&_, not}
+use Prim.Native.Nat.{ℕ, _+_, _*_, _-_}
+use mathlib.Core.Bool.{Bool, cond, _&&_, not}
 use mathlib.Core.List.{List}
-use mathlib.Core.Path.{_≡_}
-use lib.Dec.{eqb}
-use lib.ListN.{length, getD}
+use lib.Dec.{leb, ltb, eqb}
+use lib.ListN.{getD}
 use Rattle.layout.specs.Bytes.{within}
-use Rattle.layout.specs.Answer.{Answer, accepted, need, _orElse_}
-use Rattle.layout.specs.Search.{find}
-use Rattle.layout.specs.Entries.{directory}
-use Rattle.layout.specs.States.{statesEntry, statesOf, tallyOf}
-use Rattle.layout.specs.Rules.{headerRules, statesFit, rule16}
-use Rattle.directory.specs.Checks.{setsOf}
+use Rattle.layout.specs.Answer.{Answer, need, where′, _orElse_}
+use Rattle.layout.specs.Search.{count, find}
 use Rattle.directory.specs.declared.Sets.{Sets}
+use Rattle.states.specs.declared.Tally.{Tally}
 
 -- the role of entry i lies between two
 unfoldable pub roleWithin : List ℕ → ℕ → ℕ → ℕ → Bool
 roleWithin roles low high i = within low high (getD roles i 0)
+
+-- the entry that describes the states, if exactly one of n entries does, else n
+unfoldable pub onlyStates : List ℕ → ℕ → ℕ
+onlyStates roles n = cond (eqb (count (roleWithin roles 5 5) 0 n) 1) (find (roleWithin roles 5 5) 0 n) n
 
 -- a variable set of this role, whose records, of which a tally has these counts and totals, do not fill it
 unfoldable pub unfilled : ℕ → ℕ → ℕ → List ℕ → List ℕ → Bool
@@ -32,13 +32,11 @@ rule16By sets tallied totals =
     let found = find (unfilledAt (sets .roles) (sets .counts) (sets .sizes) tallied totals) 0 (sets .entries) in
     need (eqb found (sets .entries)) 16 (getD (sets .offsets) found 0) found
 
--- a product that meets rules 1 to 14, and its directory's numbers
-pub record Laid (b : List ℕ) (sets : Sets) : Type 0 where
-  pub rules : headerRules b (length b) ≡ accepted
-  pub held : sets ≡ setsOf (directory b)
-
--- rules 15 and 16, where exactly one entry describes the states
-unfoldable pub describedRules : List ℕ → Answer
-describedRules b =
-    statesFit (directory b) (tallyOf (statesOf b (directory b))) (statesEntry (directory b))
-    orElse rule16 (directory b) (tallyOf (statesOf b (directory b)))
+-- rules 15 and 16 by the arrays and a tally, where entry i and no other describes the states
+unfoldable pub describedBy : Sets → ℕ → Tally → Answer
+describedBy sets i t =
+    let place = getD (sets .offsets) i 0 in
+    let size = getD (sets .sizes) i 0 in
+    let count = getD (sets .counts) i 0 in
+    where′ (ltb 0 size) (need (eqb size (1387 * count)) 15 place i orElse need (leb count (t .bad)) 15 (place + 1387 * t .bad) i)
+    orElse rule16By sets (t .counts) (t .totals)

@@ -1,10 +1,10 @@
--- `variable::is_unfilled` meets its contract.
+-- `states::is_unfilled` meets its contract.
 -- Assumes nothing.
 use native.Mathlib.Omega.{arith}
-use Rattle.variable.proofs.Roles.{filled-below, filled-above, count-differs, total-decides}
+use Rattle.states.proofs.Roles.{filled-below, filled-above, count-differs, total-decides}
 use borrow.Author.Needs.{needs}
-use Rattle.variable.proofs.is_unfilled.Statement.{statement}
-use Rattle.variable.proofs.is_unfilled.Tie as tie
+use Rattle.states.proofs.is_unfilled.Statement.{statement}
+use Rattle.states.proofs.is_unfilled.Tie as tie
 
 -- src/lib.rt:32:9
 returns : tie.Need-returns

@@ -1,0 +1,44 @@
+-- `states::judge_states` meets its contract.
+-- Assumes nothing.
+use mathlib.Core.Path.{sym, _∙_}
+use native.Mathlib.Omega.{arith}
+use native.Mathlib.Nat.{sub-zero}
+use Rattle.layout.specs.Answers.{verdictIs}
+use Rattle.states.proofs.Fits.{most-entries, no-variable, span-inside, tally-decides}
+use borrow.Author.Needs.{needs}
+use Rattle.states.proofs.judge_states.Statement.{statement}
+use Rattle.states.proofs.judge_states.Tie as tie
+
+first-role-requires : tie.Need-first-role-requires
+first-role-requires c κs =
+    let l = c .before .before .before .pre in
+    (omega arith, most-entries _ _ _ (l .held) (l .fits))
+
+returns : tie.Need-returns
+unfolding verdictIs
+returns c = λ ds n held fits. sym (no-variable _ ds n held fits _ (sym (rw sub-zero at (c .before .first-role .ensures)) ∙ c .if1 .taken))
+
+states-span-requires : tie.Need-states-span-requires
+states-span-requires c κs = (_, c .before .before .before .before .before .pre)
+
+tally-states-requires : tie.Need-tally-states-requires
+tally-states-requires c κs =
+    let l = c .before .before .before .before .before .before .pre in
+    rw (c .states-span .ensures _ _ (l .held) (l .fits)) (span-inside _ _ (l .fits))
+
+judge-tally-requires : tie.Need-judge-tally-requires
+judge-tally-requires c κs = (_, c .before .before .before .before .before .before .before .pre)
+
+returns-2 : tie.Need-returns-2
+returns-2 c = λ ds n held fits. c .judge-tally .ensures ds n held fits ∙ tally-decides ds n fits _ _ _ (c .before .before .states-span .ensures ds n held fits) (c .before .tally-states .ensures)
+
+pub judge-states-spec : {M : Type 1} → statement M
+judge-states-spec =
+    tie.close
+    (tie.spec
+    first-role-requires
+    returns
+    states-span-requires
+    tally-states-requires
+    judge-tally-requires
+    returns-2)
