@@ -19,3 +19,20 @@ pub fn open_headers(p: &[u8], length: u64) -> Opening
     }
     directory::check_directory(p, length, header.headers_end, header.entries)
 }
+
+// All sixteen rules, of a product lent whole.
+pub fn open_product(p: &[u8]) -> Opening
+    ensures { λ r. ⌜ Opened (verdict (now (p .entry))) (now (p .entry)) r ⌝ }
+{
+    let opened = open_headers(p, p.len() as u64);
+    let headers = opened.verdict;
+    if let Verdict::Refused(_) = headers {
+        return opened;
+    }
+    let sets = opened.sets;
+    let states = states::judge_states(p, sets);
+    if let Verdict::Refused(refusal) = states {
+        return Opening::refuse(refusal);
+    }
+    opened
+}
