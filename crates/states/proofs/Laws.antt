@@ -18,12 +18,11 @@ use Rattle.layout.specs.Entries.{Entry, at, start}
 use Rattle.layout.specs.States.{State, stateFits, attached, stateCount, stateLengths, stateBytes, stateAt, stateIn, statesEntry, statesAt, statesOf, firstBad, countOfKind, totalOfKind, tallyOf, ofKind}
 use Rattle.layout.specs.Records.{variableLengths}
 use Rattle.layout.proofs.Laws.{lt-or-le}
-use Rattle.states.specs.declared.State.{State as StateRead}
 use Rattle.states.specs.declared.Tally.{Tally}
 use Rattle.states.specs.declared.Found.{Found}
 use Rattle.states.specs.declared.Found.the-variants.{At, Nothing}
-use Rattle.states.specs.States.{stateIs, stateFrom, statesFrom, cap, capped, added, tallyIs, tally, withState, after, noTally, foundBehind, found}
-use Rattle.states.proofs.Sums.{zero-capped, capped-is, capped-plus, Capped, no-sums, added-capped, left, left-none, left-step}
+use Rattle.states.specs.States.{stateFrom, statesFrom, cap, capped, Capped, added, tallyIs, tally, withState, after, noTally, foundBehind, found}
+use Rattle.states.proofs.Sums.{zero-capped, capped-is, capped-plus, no-sums, added-capped, Four, added-four, left, left-none, left-step}
 
 -- ---- the numbers of a state
 
@@ -134,7 +133,7 @@ bad-bound : (bad i : ℕ) (t : Bool) → bad ≤ i → cond t (bad + 1) bad ≤ 
 bad-bound bad i true h = omega arith
 bad-bound bad i false h = omega arith
 
-after-is : (t : Tally) (i : ℕ) (ss : List State) → Capped (t .counts) → Capped (t .totals) → t .bad ≤ i
+after-is : (t : Tally) (i : ℕ) (ss : List State) → Four (t .counts) → Four (t .totals) → t .bad ≤ i
     → after t i ss ≡ record { bad = cond (eqb (t .bad) i) (i + firstBad ss) (t .bad); counts = left stateCount (t .counts) ss; totals = left stateBytes (t .totals) ss }
 unfolding after firstBad withState
 after-is t i [] e f h = λ j. record { bad = none j; counts = left-none stateCount (t .counts) e j; totals = left-none stateBytes (t .totals) f j }
@@ -142,16 +141,16 @@ after-is t i [] e f h = λ j. record { bad = none j; counts = left-none stateCou
     none : t .bad ≡ cond (eqb (t .bad) i) (i + 0) (t .bad)
     none = ⊎-elim (λ l. rw (ne-eqb (t .bad) i (λ q. omega arith))) (λ l. rw (eq-eqb (t .bad) i (omega arith)) (omega arith)) (lt-or-le (t .bad) i)
 after-is t i (s ∷ ss) e f h =
-    after-is (withState t s i) (i + 1) ss (added-capped (t .counts) (s .kind) (stateCount (s .kind) s) e) (added-capped (t .totals) (s .kind) (stateBytes (s .kind) s) f) (bad-bound (t .bad) i (eqb (t .bad) i && stateFits s) h)
+    after-is (withState t s i) (i + 1) ss (added-four (t .counts) (s .kind) (stateCount (s .kind) s) e) (added-four (t .totals) (s .kind) (stateBytes (s .kind) s) f) (bad-bound (t .bad) i (eqb (t .bad) i && stateFits s) h)
     ∙ (λ j. record {
       bad = bad-step (t .bad) i (firstBad ss) (stateFits s) h j;
-      counts = left-step stateCount (t .counts) (s .kind) (stateCount (s .kind) s) s ss (e .four) (own-count s) j;
-      totals = left-step stateBytes (t .totals) (s .kind) (stateBytes (s .kind) s) s ss (f .four) (own-bytes s) j;
+      counts = left-step stateCount (t .counts) (s .kind) (stateCount (s .kind) s) s ss (e .0) (own-count s) j;
+      totals = left-step stateBytes (t .totals) (s .kind) (stateBytes (s .kind) s) s ss (f .0) (own-bytes s) j;
     })
 
 pub after-all : (ss : List State) → after noTally 0 ss ≡ tallyIs (tallyOf ss)
 unfolding tallyIs tallyOf left countOfKind totalOfKind
-after-all ss = after-is noTally 0 ss no-sums no-sums (omega arith) ∙ simp zero-add
+after-all ss = after-is noTally 0 ss (refl, no-sums) (refl, no-sums) (omega arith) ∙ simp zero-add
 
 -- one more state: what is left of the tally is the whole tally
 pub after-step : (b : List ℕ) (start n i : ℕ) (t u : Tally) (s : State) → i < n → s ≡ stateFrom b start i → u ≡ withState t s i
@@ -164,15 +163,20 @@ unfolding after
 after-end b start n i t h = rw (rest-end b start n i h)
 
 -- one more state, by the tally's three parts
-pub with-parts : (t u : Tally) (s : StateRead) (i more : ℕ) (fits : Bool) → more ≡ stateCount (s .kind) (stateIs s) → fits ≡ stateFits (stateIs s)
-    → u .bad ≡ cond (eqb (t .bad) i && fits) (t .bad + 1) (t .bad) → u .counts ≡ added (t .counts) (s .kind) more → u .totals ≡ added (t .totals) (s .kind) (more * s .«record_length»)
-    → u ≡ withState t (stateIs s) i
-unfolding withState stateIs stateBytes
+pub with-parts : (t u : Tally) (s : State) (i more : ℕ) (fits : Bool) → more ≡ stateCount (s .kind) s → fits ≡ stateFits s
+    → u .bad ≡ cond (eqb (t .bad) i && fits) (t .bad + 1) (t .bad) → u .counts ≡ added (t .counts) (s .kind) more → u .totals ≡ added (t .totals) (s .kind) (more * s .recordLength)
+    → u ≡ withState t s i
+unfolding withState stateBytes
 with-parts t u s i more fits e f b c d = λ j. record {
   bad = (b ∙ ap (λ (x : Bool). cond (eqb (t .bad) i && x) (t .bad + 1) (t .bad)) f) j;
   counts = (c ∙ ap (added (t .counts) (s .kind)) e) j;
-  totals = (d ∙ ap (λ (n : ℕ). added (t .totals) (s .kind) (n * s .«record_length»)) e) j;
+  totals = (d ∙ ap (λ (n : ℕ). added (t .totals) (s .kind) (n * s .recordLength)) e) j;
 }
+
+-- the sums stay capped
+pub with-capped : (t u : Tally) (s : State) (i : ℕ) → u ≡ withState t s i → Capped (t .counts) → Capped (t .totals) → Capped (u .counts) × Capped (u .totals)
+unfolding withState
+with-capped t u s i q e f = rw q (added-capped (t .counts) (s .kind) (stateCount (s .kind) s) e, added-capped (t .totals) (s .kind) (stateBytes (s .kind) s) f)
 
 -- ---- the records that states add to a set
 

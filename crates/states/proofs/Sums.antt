@@ -8,14 +8,14 @@ use mathlib.Core.Path.{_≡_, refl, sym, ap, _∙_}
 use native.Mathlib.Omega.{arith}
 use native.Mathlib.Nat.{add-zero, zero-add, add-assoc, mul-le-mul}
 use lib.Dec.{eqb}
-use lib.ListN.{length, getD, set, replicate, length-set, getD-replicate}
+use lib.ListN.{length, getD, set, replicate, length-set}
 use lib.Seq.{ext-getD, getD-set-same, getD-set-other}
 use borrow.Author.Tests.{le-leb, lt-leb, ne-eqb, eqb-true, eqb-false}
 use Rattle.layout.specs.Bytes.{within}
 use Rattle.layout.specs.Search.{upto, sum}
 use Rattle.layout.specs.States.{State, ofKind}
 use Rattle.layout.proofs.Laws.{lt-or-le}
-use Rattle.states.specs.States.{cap, capped, added}
+use Rattle.states.specs.States.{cap, capped, Capped, added}
 
 -- ---- one sum
 
@@ -105,26 +105,35 @@ module _ (l : List ℕ) (kind more : ℕ) where
       go true = length-set l (kind - 1) (capped (ofKind l kind + more))
       go false = refl
 
--- four sums, each capped
-pub record Capped (l : List ℕ) : Type 0 where
-  pub four : length l ≡ 4
-  pub low : (i : ℕ) → i < 4 → getD l i 0 ≤ cap
-
+-- capped sums stay capped
 pub no-sums : Capped (replicate 4 0)
-no-sums = record { four = refl; low = low }
-  where
-    low : (i : ℕ) → i < 4 → getD (replicate 4 0) i 0 ≤ cap
-    low i h = rw (getD-replicate {A = ℕ} 4 i 0 0 h) (omega arith)
+no-sums zero = omega arith
+no-sums (suc zero) = omega arith
+no-sums (suc (suc zero)) = omega arith
+no-sums (suc (suc (suc zero))) = omega arith
+no-sums (suc (suc (suc (suc i)))) = omega arith
+
+set-capped : (l : List ℕ) (k v : ℕ) → v ≤ cap → Capped l → Capped (set l k v)
+set-capped [] k v h c i = omega arith
+set-capped (x ∷ l) zero v h c zero = h
+set-capped (x ∷ l) zero v h c (suc i) = c (suc i)
+set-capped (x ∷ l) (suc k) v h c zero = c zero
+set-capped (x ∷ l) (suc k) v h c (suc i) = set-capped l k v h (λ j. c (suc j)) i
 
 pub added-capped : (l : List ℕ) (kind more : ℕ) → Capped l → Capped (added l kind more)
-added-capped l kind more c = record { four = added-length l kind more ∙ c .four; low = low }
+unfolding added
+added-capped l kind more c = go (within 1 4 kind)
   where
-    go : (x : ℕ) (t : Bool) → x ≤ cap → cond t (capped (x + more)) x ≤ cap
-    go x true h = capped-le (x + more)
-    go x false h = h
+    go : (t : Bool) → Capped (cond t (set l (kind - 1) (capped (ofKind l kind + more))) l)
+    go true = set-capped l (kind - 1) (capped (ofKind l kind + more)) (capped-le (ofKind l kind + more)) c
+    go false = c
 
-    low : (i : ℕ) → i < 4 → getD (added l kind more) i 0 ≤ cap
-    low i h = rw (added-at l kind more i (c .four) h) (go (getD l i 0) (eqb kind (suc i)) (c .low i h))
+-- four sums, each capped
+abbrev pub Four : List ℕ → Type 0
+Four l = (length l ≡ 4) × Capped l
+
+pub added-four : (l : List ℕ) (kind more : ℕ) → Four l → Four (added l kind more)
+added-four l kind more f = (added-length l kind more ∙ f .0, added-capped l kind more (f .1))
 
 by-places : (l m : List ℕ) → length l ≡ 4 → length m ≡ 4 → ((i : ℕ) → i < 4 → getD l i 0 ≡ getD m i 0) → l ≡ m
 by-places l m e f h = ext-getD 0 l m (e ∙ sym f) (λ i u. h i (omega arith))
@@ -147,9 +156,9 @@ module _ (g : ℕ → State → ℕ) where
   unfolding left
   left-length l ss = refl
 
-  pub left-none : (l : List ℕ) → Capped l → l ≡ left l []
+  pub left-none : (l : List ℕ) → Four l → l ≡ left l []
   unfolding sum
-  left-none l c = by-places l (left l []) (c .four) (left-length l []) (λ i h. sym (rw (left-at l [] i h, add-zero) (capped-is (getD l i 0) (c .low i h))))
+  left-none l f = by-places l (left l []) (f .0) (left-length l []) (λ i h. sym (rw (left-at l [] i h, add-zero) (capped-is (getD l i 0) (f .1 i))))
 
   pub left-step : (l : List ℕ) (kind more : ℕ) (s : State) (ss : List State) → length l ≡ 4 → ((k : ℕ) → cond (eqb kind k) more 0 ≡ g k s) → left (added l kind more) ss ≡ left l (s ∷ ss)
   unfolding sum

@@ -1,7 +1,7 @@
 -- What the calls on states answer, in the words of the layout definition. A sum that could pass 64 bits is capped at 2^62: 1,548,292 states, which a
 -- product can hold, can total 4.4e20 bytes.
 -- Assumes nothing.
-use Prim.Native.Nat.{ℕ, _+_, _*_, _-_}
+use Prim.Native.Nat.{ℕ, _+_, _*_, _-_, _≤_}
 use mathlib.Core.Bool.{cond, _&&_}
 use mathlib.Core.List.{List, [], _∷_, map}
 use mathlib.Core.Path.{_≡_}
@@ -15,9 +15,12 @@ use Rattle.states.specs.declared.Tally.{Tally as TallyRead}
 use Rattle.states.specs.declared.Found.{Found}
 use Rattle.states.specs.declared.Found.the-variants.{At, Nothing}
 
--- the layout's state that a State is
+-- the layout's state with these numbers, and that which a State is
+abbrev pub state : ℕ → ℕ → ℕ → ℕ → State
+state flag kind count length = record { flag = flag; kind = kind; count = count; recordLength = length }
+
 unfoldable pub stateIs : StateRead → State
-stateIs s = record { flag = s .flag; kind = s .kind; count = s .count; recordLength = s .«record_length» }
+stateIs s = state (s .flag) (s .kind) (s .count) (s .«record_length»)
 
 -- the states whose records begin at a place and follow each other
 unfoldable pub stateFrom : List ℕ → ℕ → ℕ → State
@@ -34,7 +37,11 @@ cap = 4611686018427387904
 unfoldable pub capped : ℕ → ℕ
 capped n = cond (leb n cap) n cap
 
--- so much more for one of the kinds 1 to 4; of any sums, and the others stay
+-- sums that are each capped
+abbrev pub Capped : List ℕ → Type 0
+Capped l = (i : ℕ) → getD l i 0 ≤ cap
+
+-- so much more for one of the kinds 1 to 4; the other sums stay
 unfoldable pub added : List ℕ → ℕ → ℕ → List ℕ
 added l kind more = cond (within 1 4 kind) (set l (kind - 1) (capped (ofKind l kind + more))) l
 

@@ -10,7 +10,7 @@ ghost use Rattle.layout.specs.Records.{variableLengths};
 ghost use Rattle.layout.specs.Rules.{stateRules};
 ghost use Rattle.layout.specs.Search.{find};
 ghost use Rattle.layout.specs.States.{sizeOfState, stateOf, stateFits, stateCount, statesOf, tallyOf};
-ghost use Rattle.states.specs.States.{stateIs, cap, capped, added, statesFrom, tallyIs, tally, tallyFrom, withState, found};
+ghost use Rattle.states.specs.States.{state, stateIs, cap, capped, Capped, added, statesFrom, tallyIs, tally, tallyFrom, withState, found};
 ghost use Rattle.states.specs.Roles.{roleWithin, onlyStates, unfilled, unfilledAt, rule16By, describedBy};
 ghost use Rattle.states.specs.Laid.{Laid, Every, spanOf};
 use directory::Sets;
@@ -87,20 +87,20 @@ pub struct Tally {
 // 2^62, at which a sum stops: the states of a product can total more than 64 bits hold.
 const CAP: u64 = 4611686018427387904;
 
-// A sum that is past it already stops there too.
 fn plus(sum: u64, more: u64) -> u64
-    requires { ⌜ more ≤ cap ⌝ }
+    requires { ⌜ (sum ≤ cap) × (more ≤ cap) ⌝ }
     ensures { λ r. ⌜ r ≡ capped (sum + more) ⌝ }
 {
-    if CAP - more < sum {
+    let all = sum + more;
+    if CAP < all {
         return CAP;
     }
-    sum + more
+    all
 }
 
 // So much more for one kind, if it is one of the four. In place: to copy all four right behind a store to one would wait for it.
 fn add_at(sums: &mut [u64; 4], kind: u8, more: u64)
-    requires { ⌜ more ≤ cap ⌝ }
+    requires { ⌜ Capped (now sums) × (more ≤ cap) ⌝ }
     ensures { λ _. ⌜ now (sums .exit) ≡ added (now (sums .entry)) kind more ⌝ }
 {
     if kind < 1 {
@@ -127,23 +127,33 @@ fn bad_after(bad: usize, i: usize, fits: bool) -> usize
     bad
 }
 
-// One more state, number i, for any tally: its sums are changed in place, and what `bad` is then is answered.
+// One more state, number i, for any tally whose sums are capped: they are changed in place, and what `bad` is then is answered.
+// By the state's numbers: a state that is handed on whole is packed into one word and taken apart again, by half as many instructions more.
 pub fn add_state(
     bad: usize,
     counts: &mut [u64; 4],
     totals: &mut [u64; 4],
-    state: State,
+    flag: u8,
+    kind: u8,
+    count: u16,
+    record_length: u32,
     i: usize,
 ) -> usize
-    requires { ⌜ i < 18446744073709551615 ⌝ }
-    ensures { λ r. ⌜ tally r (now (counts .exit)) (now (totals .exit)) ≡ withState (tally bad (now (counts .entry)) (now (totals .entry))) (stateIs state) i ⌝ }
+    requires { ⌜ Capped (now counts) × Capped (now totals) × (i < 18446744073709551615) ⌝ }
+    ensures { λ r. ⌜ tally r (now (counts .exit)) (now (totals .exit)) ≡ withState (tally bad (now (counts .entry)) (now (totals .entry))) (state flag kind count «record_length») i ⌝ }
 {
-    let kind = state.kind;
+    let state = State {
+        flag,
+        kind,
+        count,
+        record_length,
+    };
     let more = state.adds_to(kind);
-    let bytes = more * state.record_length as u64;
+    let bytes = more * record_length as u64;
+    let bad_then = bad_after(bad, i, state.fits());
     add_at(counts, kind, more);
     add_at(totals, kind, bytes);
-    bad_after(bad, i, state.fits())
+    bad_then
 }
 
 // Of the states whose records begin at a place and follow each other.
@@ -158,7 +168,16 @@ pub fn tally_states(p: &[u8], start: usize, count: usize) -> Tally
     while i < count {
         let at = start + State::SIZE * i;
         let state = State::at(p, at);
-        bad = add_state(bad, &mut counts, &mut totals, state, i);
+        bad = add_state(
+            bad,
+            &mut counts,
+            &mut totals,
+            state.flag,
+            state.kind,
+            state.count,
+            state.record_length,
+            i,
+        );
         i += 1;
     }
     Tally {

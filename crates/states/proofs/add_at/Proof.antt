@@ -22,7 +22,7 @@ element-copy-out-plus : tie.Need-element-copy-out-plus
 element-copy-out-plus c = search needs
 
 plus-requires : tie.Need-plus-requires
-plus-requires c κs = search needs
+plus-requires c κs = (c .before .before .before .pre .0 _, c .before .before .before .pre .1)
 
 mul-sums : tie.Need-mul-sums
 mul-sums c = search needs

@@ -5,8 +5,8 @@ use mathlib.Core.Path.{_≡_}
 use native.Mathlib.Omega.{arith}
 use borrow.Author.Needs.{needs}
 use Rattle.layout.specs.Records.{variableLengths}
-use Rattle.states.specs.States.{stateIs, stateFrom, statesFrom, foundBehind, found}
-use Rattle.states.proofs.Sums.{bytes-small}
+use Rattle.states.specs.States.{stateIs, stateFrom, statesFrom, cap, foundBehind, found}
+use Rattle.states.proofs.Sums.{bytes-small, capped-le}
 use Rattle.states.proofs.Laws.{restFrom, rest-whole, record-here, record-later, record-nowhere}
 use Rattle.states.proofs.find_record.Statement.{statement}
 use Rattle.states.proofs.find_record.Tie as tie
@@ -14,6 +14,7 @@ use Rattle.states.proofs.find_record.Tie as tie
 abbrev Inv-loop : tie.InvT-loop
 Inv-loop p start count kind asked before₀ left₀ i₀ before left i =
     (i ≤ count)
+    × (before ≤ cap)
     × (found (variableLengths (statesFrom p start count) kind) asked ≡ foundBehind before (variableLengths (restFrom p start count i) kind) left)
 
 abbrev μ-loop : tie.MeasureT-loop
@@ -21,7 +22,7 @@ abbrev μ-loop : tie.MeasureT-loop
 
 loop-holds : tie.Need-loop-holds Inv-loop μ-loop
 unfolding found
-loop-holds c = (omega arith, rw rest-whole)
+loop-holds c = (omega arith, omega arith, rw rest-whole)
 
 mul-at : tie.Need-mul-at Inv-loop μ-loop
 mul-at c = omega arith
@@ -44,22 +45,29 @@ mul-plus c =
     omega arith
 
 plus-requires : tie.Need-plus-requires Inv-loop μ-loop
-plus-requires c κs = bytes-small (c .before .before .before .before .before .loop .left) (c .before .before .before .at .result .«record_length») (omega (arith, c .before .before .adds-to .ensures .1)) (search needs)
+plus-requires c κs =
+    let read = c .before .before .before in
+    let l = read .before .before .loop in
+    (l .inv .1, bytes-small (l .left) (read .at .result .«record_length») (omega (arith, c .before .before .adds-to .ensures .1)) (search needs))
 
 returns : tie.Need-returns Inv-loop μ-loop
 unfolding stateIs stateFrom
 returns c =
     let read = c .before .before .before .before in
     let l = read .before .before .loop in
-    record-here _ _ _ _ (l .i) _ _ _ (l .inv .1) (stateIs (read .at .result)) _ _ (omega arith) (read .at .ensures) (c .before .before .before .adds-to .ensures .0) (c .before .if1 .taken) (c .plus .ensures)
+    record-here _ _ _ _ (l .i) _ _ _ (l .inv .2) (stateIs (read .at .result)) _ _ (omega arith) (read .at .ensures) (c .before .before .before .adds-to .ensures .0) (c .before .if1 .taken) (c .plus .ensures)
 
 mul-plus-2 : tie.Need-mul-plus-2 Inv-loop μ-loop
 mul-plus-2 c =
-    let q = bytes-small (c .before .before .adds-to .result) (c .before .before .before .at .result .«record_length») (c .before .before .adds-to .ensures .1) (search needs) in
+    let n = c .before .before .adds-to in
+    let q = bytes-small (n .result) (c .before .before .before .at .result .«record_length») (n .ensures .1) (search needs) in
     omega arith
 
 plus-requires-2 : tie.Need-plus-requires-2 Inv-loop μ-loop
-plus-requires-2 c κs = bytes-small (c .before .before .adds-to .result) (c .before .before .before .at .result .«record_length») (c .before .before .adds-to .ensures .1) (search needs)
+plus-requires-2 c κs =
+    let n = c .before .before .adds-to in
+    let read = c .before .before .before in
+    (read .before .before .loop .inv .1, bytes-small (n .result) (read .at .result .«record_length») (n .ensures .1) (search needs))
 
 add-i : tie.Need-add-i Inv-loop μ-loop
 add-i c = omega arith
@@ -72,10 +80,10 @@ unfolding stateIs stateFrom
 loop-again c =
     let read = c .before .before .before .before in
     let l = read .before .before .loop in
-    (omega arith, record-later _ _ _ _ (l .i) _ _ _ (l .inv .1) (stateIs (read .at .result)) _ _ (omega arith) (read .at .ensures) (c .before .before .before .adds-to .ensures .0) (c .before .if1 .left) (c .plus2 .ensures))
+    (omega arith, rw (c .plus2 .ensures) (capped-le _), record-later _ _ _ _ (l .i) _ _ _ (l .inv .2) (stateIs (read .at .result)) _ _ (omega arith) (read .at .ensures) (c .before .before .before .adds-to .ensures .0) (c .before .if1 .left) (c .plus2 .ensures))
 
 returns-2 : tie.Need-returns-2 Inv-loop μ-loop
-returns-2 c = record-nowhere _ _ _ _ _ _ _ _ (c .before .loop .inv .1) (c .loop-test .left)
+returns-2 c = record-nowhere _ _ _ _ _ _ _ _ (c .before .loop .inv .2) (c .loop-test .left)
 
 pub find-record-spec : {M : Type 1} → statement M
 find-record-spec =

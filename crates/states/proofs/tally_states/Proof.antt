@@ -3,20 +3,24 @@
 use Prim.Native.Nat.{_≤_, _-_}
 use mathlib.Core.Path.{_≡_, sym, ap, _∙_}
 use native.Mathlib.Omega.{arith}
-use Rattle.states.specs.States.{stateFrom, statesFrom, tally, after, noTally}
-use Rattle.states.proofs.Laws.{restFrom, rest-whole, after-all, after-step, after-end}
+use Rattle.states.specs.States.{stateIs, stateFrom, statesFrom, Capped, tally, after, noTally}
+use Rattle.states.proofs.Sums.{no-sums}
+use Rattle.states.proofs.Laws.{restFrom, rest-whole, after-all, after-step, after-end, with-capped}
 use Rattle.states.proofs.tally_states.Statement.{statement}
 use Rattle.states.proofs.tally_states.Tie as tie
 
 abbrev Inv-loop : tie.InvT-loop
 Inv-loop p start count bad₀ counts₀ totals₀ i₀ bad counts totals i =
-    (i ≤ count) × (after noTally 0 (statesFrom p start count) ≡ after (tally bad counts totals) i (restFrom p start count i))
+    (i ≤ count)
+    × Capped counts
+    × Capped totals
+    × (after noTally 0 (statesFrom p start count) ≡ after (tally bad counts totals) i (restFrom p start count i))
 
 abbrev μ-loop : tie.MeasureT-loop
 μ-loop p start count bad₀ counts₀ totals₀ i₀ bad counts totals i = count - i
 
 loop-holds : tie.Need-loop-holds Inv-loop μ-loop
-loop-holds c = (omega arith, sym (ap (after noTally 0) (rest-whole _ _ _)))
+loop-holds c = (omega arith, no-sums, no-sums, sym (ap (after noTally 0) (rest-whole _ _ _)))
 
 mul-at : tie.Need-mul-at Inv-loop μ-loop
 mul-at c = omega arith
@@ -28,7 +32,7 @@ at-requires : tie.Need-at-requires Inv-loop μ-loop
 at-requires c κs = omega arith
 
 add-state-requires : tie.Need-add-state-requires Inv-loop μ-loop
-add-state-requires c κs = omega arith
+add-state-requires c κs = let l = c .before .before .before .before .loop in (l .inv .1, l .inv .2, omega arith)
 
 add-i : tie.Need-add-i Inv-loop μ-loop
 add-i c = omega arith
@@ -37,14 +41,15 @@ loop-less : tie.Need-loop-less Inv-loop μ-loop
 loop-less c = omega arith
 
 loop-again : tie.Need-loop-again Inv-loop μ-loop
-unfolding stateFrom
+unfolding stateFrom stateIs
 loop-again c =
     let read = c .before .before .before in
     let l = read .before .before .loop in
-    (omega arith, l .inv .1 ∙ after-step _ _ _ _ _ _ _ (omega arith) (read .at .ensures) (c .add-state .ensures))
+    let sums = with-capped _ _ _ _ (c .add-state .ensures) (l .inv .1) (l .inv .2) in
+    (omega arith, sums .0, sums .1, l .inv .3 ∙ after-step _ _ _ _ _ _ _ (omega arith) (read .at .ensures) (c .add-state .ensures))
 
 returns : tie.Need-returns Inv-loop μ-loop
-returns c = sym (after-end _ _ _ _ _ (c .loop-test .left)) ∙ sym (c .before .loop .inv .1) ∙ after-all _
+returns c = sym (after-end _ _ _ _ _ (c .loop-test .left)) ∙ sym (c .before .loop .inv .3) ∙ after-all _
 
 pub tally-states-spec : {M : Type 1} → statement M
 tally-states-spec =
