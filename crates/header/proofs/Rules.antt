@@ -203,13 +203,6 @@ module _ (b : List ℕ) (n : ℕ) where
   pub long-enough : rules1to6 b n ≡ accepted → 1247 ≤ n
   long-enough h = length-good n (groups-good h .0) .0
 
-  -- what `read_header` requires of TOT_SIZE
-  pub total-fits : rules1to6 b n ≡ accepted → totSize b .magnitude ≤ 9223372036854775807
-  unfolding totalRules rule4
-  total-fits h =
-      let four = orElse-accepts (need (leb (totSize b .magnitude) 9223372036854775807) 4 1075 128) (rule5 b n) .0 (groups-good h .1) in
-      leb-T (totSize b .magnitude) 9223372036854775807 .0 (need-accepts (leb (totSize b .magnitude) 9223372036854775807) 4 1075 128 .0 (four .0))
-
   pub sph-most : rules1to6 b n ≡ accepted → numberOf (part b 1113 11) .magnitude ≤ 49152
   sph-most h = rw (← sph-at b) (sph-good (sizes-tests (groups-good h .2) .0) .0)
 

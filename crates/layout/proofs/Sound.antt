@@ -16,7 +16,7 @@ use Rattle.layout.specs.Bytes.{bytes, member}
 use Rattle.layout.specs.Text.{Number, whole, layout}
 use Rattle.layout.specs.Answer.{accepted}
 use Rattle.layout.specs.Search.{upto, laidOut}
-use Rattle.layout.specs.Entries.{Entry, largestSigned, sphSize, numDsd, headersEnd, entries, dsdsAt, dsdAt, dsdBytes, entryOf, entryFrom, entriesFrom, entryAt, directory, at, isData, nonEmpty, start, extent, isVariable}
+use Rattle.layout.specs.Entries.{Entry, largestSigned, totSize, sphSize, numDsd, headersEnd, entries, dsdsAt, dsdAt, dsdBytes, entryOf, entryFrom, entriesFrom, entryAt, directory, at, isData, nonEmpty, start, extent, isVariable}
 use Rattle.layout.specs.States.{State, Tally, statesOf, tallyOf}
 use Rattle.layout.specs.Records.{lengths}
 use Rattle.layout.specs.Faults.{NonEmpty, Byte, NumbersFit, Variable}
@@ -85,7 +85,9 @@ pub record Keeps (b : List ℕ) (n : ℕ) : Type 0 where
 
 -- what they give of the directory
 pub record Headed (b : List ℕ) (n : ℕ) : Type 0 where
+  pub main : 1247 ≤ n
   pub long : n ≤ 2147483647
+  pub total : totSize b .magnitude ≤ largestSigned
   pub headers : headersEnd b ≤ n
   pub few : entries b ≤ 128
   pub dsds : 280 * entries b ≤ sphSize b .magnitude
@@ -197,9 +199,17 @@ module _ (b : List ℕ) (n : ℕ) (h : headerRules b n ≡ accepted) where
         fourteen = r11 .1 .1 .1;
       }
 
+  rule1-sound : 1247 ≤ n
+  unfolding rule1
+  rule1-sound = simp tests at (keeps .one)
+
   rule2-sound : n ≤ 2147483647
   unfolding rule2
   rule2-sound = simp tests at (keeps .two)
+
+  rule4-sound : totSize b .magnitude ≤ largestSigned
+  unfolding rule4
+  rule4-sound = simp tests at (keeps .four)
 
   rule6-sound : (headersEnd b ≤ n) × (280 * entries b ≤ sphSize b .magnitude)
   unfolding rule6 sphFits dsdsFit
@@ -246,7 +256,9 @@ module _ (b : List ℕ) (n : ℕ) (h : headerRules b n ≡ accepted) where
   pub headed : Headed b n
   headed =
       record {
+        main = rule1-sound;
         long = rule2-sound;
+        total = rule4-sound;
         headers = rule6-sound .0;
         few = entries-sound;
         dsds = rule6-sound .1;

@@ -17,7 +17,7 @@ use Rattle.layout.specs.Text.{Number, whole, lineClasses, valueClasses, valueWi
 use Rattle.layout.specs.Lines.{dsd}
 use Rattle.layout.specs.Answer.{Answer, accepted, refused}
 use Rattle.layout.specs.Search.{upto, join}
-use Rattle.layout.specs.Entries.{Entry, headersEnd, entries, dsdAt, dsdBytes, entryOf, entryAt, directory, at, isData, start, extent}
+use Rattle.layout.specs.Entries.{Entry, headersEnd, entries, dsdsAt, dsdAt, dsdBytes, entryOf, directory, at, isData, start, extent}
 use Rattle.layout.specs.Rules.{verdict}
 use Rattle.layout.specs.Listing.{decimal, signedDecimal, trimmed, lineOf, entryLine, acceptedLines, listingFor, listing}
 use Rattle.layout.specs.Answers.{padded, typeOf, nameOf, countOf, recordSizeOf, directoryOf, directoryFor, noDirectory}
@@ -25,7 +25,8 @@ use Rattle.layout.proofs.Padded.{getD-map, padded-at}
 use Rattle.layout.proofs.Types.{Typed}
 use Rattle.layout.specs.Faults.{NumbersFit}
 use Rattle.layout.proofs.Tests.{data-T}
-use Rattle.layout.proofs.Sound.{Sound, sound, length-directory, at-directory, last-of-four}
+use Rattle.layout.proofs.Sound.{Sound, sound, length-directory, at-directory, entry-at, last-of-four}
+use Rattle.layout.proofs.Agree.{map-upto-same}
 use Rattle.listing_text.specs.declared.Listed.{Listed}
 use Rattle.listing_text.specs.EntryLine.{nameAt, entryWords, entryText}
 use Rattle.listing_text.specs.Listing.{listedOf, entryTextAt, entryTexts, acceptedText, refusalText, listingOf, longerText}
@@ -68,16 +69,14 @@ unsigned e typed fit named = go typed (isData e) refl
 
 module _ (b : List ℕ) (good : Sound b) where
   dsd-whole : (i : ℕ) → i < entries b → length (dsdBytes b i) ≡ 280
-  unfolding dsdBytes part dsdAt headersEnd
-  dsd-whole i h =
-      length-take-le 280 (drop (headersEnd b - 280 * entries b + 280 * i) b)
-      (omega (arith, good .headers, good .dsds, length-drop (headersEnd b - 280 * entries b + 280 * i) b))
+  unfolding dsdBytes part dsdAt dsdsAt headersEnd
+  dsd-whole i h = length-take-le 280 (drop (dsdAt b i) b) (omega (arith, good .headed .headers, good .headed .dsds, length-drop (dsdAt b i) b))
 
   name-width : (i : ℕ) → i < length (directory b) → length (at (directory b) i .name) ≡ 28
-  unfolding entryAt entryOf valueOf placeOf widthOf dsd lineClasses valueClasses quoteWidth valueWidth part
+  unfolding entryOf valueOf placeOf widthOf dsd lineClasses valueClasses quoteWidth valueWidth part
   name-width i l =
       let m : i < entries b = omega (arith, length-directory b) in
-      rw (at-directory b i m) (length-take-le 28 (drop 9 (dsdBytes b i)) (omega (arith, dsd-whole i m, length-drop 9 (dsdBytes b i))))
+      rw (at-directory b i m, entry-at b i) (length-take-le 28 (drop 9 (dsdBytes b i)) (omega (arith, dsd-whole i m, length-drop 9 (dsdBytes b i))))
 
 -- ---- lines
 
@@ -122,10 +121,6 @@ module _ (ds : List Entry) (i : ℕ) (l : i < length ds) (wide : (k : ℕ) → k
           let u = unsigned (at ds i) typed fit (eqb-false (at ds i .type) 32 x) in
           rw (name-same, u .0, u .1 .0, u .1 .1)
 
-map-same : (f g : ℕ → List ℕ) (i n : ℕ) → ((k : ℕ) → i ≤ k → k < i + n → f k ≡ g k) → map f (upto i n) ≡ map g (upto i n)
-map-same f g i zero h = refl
-map-same f g i (suc n) h = rw (h i (omega arith) (omega arith), map-same f g (suc i) n (λ k l u. h k (omega arith) (omega arith)))
-
 -- ---- listings
 
 accepted-same : (b : List ℕ) → verdict b ≡ accepted → listingOf (verdict b) (length b) (directoryOf (directory b)) ≡ listingFor (verdict b) (acceptedLines b (directory b))
@@ -133,7 +128,7 @@ unfolding listingOf listingFor acceptedText acceptedLines entryTexts directoryOf
 accepted-same b h =
     let good = sound b h in
     let ds = directory b in
-    rw (h, map-same (entryTextAt (directoryOf ds)) (entryLine ds) 0 (length ds) (λ k l u. let m : k < length ds = omega arith in line-same ds k m (name-width b good) (good .typed k m) (good .numbers k m)))
+    rw (h, map-upto-same (entryTextAt (directoryOf ds)) (entryLine ds) 0 (length ds) (λ k l u. let m : k < length ds = omega arith in line-same ds k m (name-width b good) (good .headed .typed k m) (good .headed .numbers k m)))
 
 refused-same : (b : List ℕ) (n p e : ℕ) → verdict b ≡ refused n p e → listingOf (verdict b) (length b) noDirectory ≡ listingFor (verdict b) (acceptedLines b (directory b))
 unfolding listingOf listingFor refusalText

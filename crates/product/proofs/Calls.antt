@@ -8,34 +8,33 @@ use lib.Dec.{ltb→lt}
 use lib.ListN.{length}
 use Rattle.layout.specs.Bytes.{part}
 use Rattle.layout.specs.Answer.{accepted, refused, Reply, refusal, is, _else_, _before_}
-use Rattle.layout.specs.Entries.{headersEnd, entries, dsdAt, directory, at}
+use Rattle.layout.specs.Entries.{headersEnd, entries, dsdsAt, entriesFrom, directory, at}
 use Rattle.layout.specs.States.{statesOf}
 use Rattle.layout.specs.Rules.{verdict}
 use Rattle.layout.specs.Records.{Span, lengths, recordAt, recordLength, recordPart, recordRefusal, recordPlace, sphPlace, partOf}
 use Rattle.layout.specs.Fields.{recordOf}
-use Rattle.layout.specs.Answers.{verdictIs, placeIs}
+use Rattle.layout.specs.Answers.{placeIs, directoryOf}
 use Rattle.layout.specs.declared.Refusal.{Refusal}
 use Rattle.layout.specs.declared.Verdict.the-variants.{Accepted, Refused}
 use Rattle.layout.specs.declared.Place.{Place}
 use Rattle.layout.specs.declared.Place.the-variants as places
 use Rattle.layout.proofs.Laws.{orElse-accepts, need-accepts}
-use Rattle.layout.proofs.Replies.{else-is, else-refusal}
+use Rattle.layout.proofs.Replies.{told-refused, told-accepted, else-is, else-refusal}
 use Rattle.layout.proofs.Sound.{sound, length-directory}
 use Rattle.layout.proofs.Whole.{record-inside}
-use Rattle.directory.specs.Checks.{Headers}
-use Rattle.opening.specs.Opening.{Opened}
-use Rattle.opening.specs.declared.Opening.{Opening}
+use Rattle.directory.specs.Numbers.{directoryWith}
+use Rattle.directory.specs.Opening.{Opened}
+use Rattle.directory.specs.declared.Opening.{Opening}
+use Rattle.directory.proofs.Held.{with-numbers}
 use Rattle.records.specs.Open.{Open}
 use Rattle.records.proofs.Laws.{entries-few, entries-held}
 
-module _ (b : List ℕ) (o : Opening) (opened : Opened b o) where
+module _ (b : List ℕ) (o : Opening) (opened : Opened (verdict b) b o) where
   pub is-refused : (r : Refusal) → o .verdict ≡ Refused r → verdict b ≡ refused (r .number) (r .place) (r .entry)
-  unfolding verdictIs
-  is-refused r h = sym (opened .judged) ∙ rw h
+  is-refused r h = told-refused (o .verdict) r (verdict b) h (opened .judged)
 
   pub is-accepted : o .verdict ≡ Accepted → verdict b ≡ accepted
-  unfolding verdictIs
-  is-accepted h = sym (opened .judged) ∙ rw h
+  is-accepted h = told-accepted (o .verdict) (verdict b) h (opened .judged)
 
   module _ (a : verdict b ≡ accepted) where
     pub now-open : Open b (o .sets)
@@ -44,22 +43,22 @@ module _ (b : List ℕ) (o : Opening) (opened : Opened b o) where
     all-entries : o .sets .entries ≡ entries b
     all-entries = entries-held b (o .sets) now-open ∙ length-directory b
 
-    room : 1247 + 280 * entries b ≤ headersEnd b
-    unfolding headersEnd
-    room = let d = sound b a .dsds in omega arith
+    -- the DSDs lie behind the main header, and in the product
+    pub now-dsds : (1247 ≤ o .dsds) × (o .dsds + 280 * o .sets .entries ≤ length b)
+    unfolding dsdsAt headersEnd
+    now-dsds =
+        let m = sound b a .headed in
+        (omega (arith, opened .begin a, m .dsds), omega (arith, opened .begin a, all-entries, m .dsds, m .headers))
 
-    pub now-headers : Headers b (o .«headers_end») (o .sets .entries)
-    now-headers = record {
-      ends = opened .end a;
-      all = all-entries;
-      most = entries-few b (o .sets) now-open;
-      room = omega (arith, opened .end a, all-entries, room);
-      inside = omega (arith, opened .end a, sound b a .headers);
-    }
+    pub now-few : o .sets .entries ≤ 128
+    now-few = entries-few b (o .sets) now-open
 
-    pub lines-are : o .«headers_end» - 1247 - 280 * o .sets .entries ≡ dsdAt b 0 - 1247
-    unfolding dsdAt
-    lines-are = omega (arith, opened .end a, all-entries, room)
+    pub lines-are : o .dsds - 1247 ≡ dsdsAt b - 1247
+    lines-are = rw (opened .begin a)
+
+    pub now-directory : directoryWith (o .sets) (entriesFrom b (o .dsds) (o .sets .entries)) ≡ directoryOf (directory b)
+    unfolding directory
+    now-directory = rw (opened .begin a, all-entries) (with-numbers (o .sets) (directory b) (opened .held a))
 
 -- ---- places and parts
 
@@ -68,10 +67,10 @@ abbrev Within : List ℕ → Reply Span → Type 0
 Within b a = (s : Span) → a ≡ is s → s .place + s .length ≤ length b
 
 pub sph-within : (b : List ℕ) → Within b (sphPlace b)
-unfolding sphPlace dsdAt headersEnd
+unfolding sphPlace dsdsAt headersEnd
 sph-within b s h =
-    let r = else-is (verdict b) (record { place = 1247; length = dsdAt b 0 - 1247 }) s h in
-    let m = sound b (r .0) in
+    let r = else-is (verdict b) (record { place = 1247; length = dsdsAt b - 1247 }) s h in
+    let m = sound b (r .0) .headed in
     let p = ap (λ (x : Span). x .place + x .length) (r .1) in
     omega (arith, p, m .headers, m .dsds)
 

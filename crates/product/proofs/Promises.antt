@@ -31,7 +31,7 @@ use Rattle.values.specs.declared.HeaderAnswer.{HeaderAnswer}
 use Rattle.layout.proofs.Agree.{map-upto-same}
 use Rattle.layout.proofs.Maps.{one-verdict, one-place, one-field-answer, one-point-answer}
 use Rattle.layout.proofs.Tests.{variable-T}
-use Rattle.layout.proofs.Sound.{length-directory, count-sound, both-accept, accepted-entries, sound}
+use Rattle.layout.proofs.Sound.{length-directory, accepted-entries, sound}
 use Rattle.layout.proofs.Whole.{joins, only-sets-in-order}
 use Rattle.product.proofs.Calls.{sph-within, record-within}
 
@@ -112,7 +112,7 @@ module _ (b : List ℕ) where
         go false q = length-replicate (at ds i .count .magnitude) (at ds i .recordSize .magnitude)
 
     few : (i : ℕ) → i < length ds → length (lengths (statesOf b ds) (at ds i)) < usize
-    few i l = omega (arith, as-many i l, count-sound b (both-accept b accepts .0) i l)
+    few i l = omega (arith, as-many i l, sound b accepts .headed .counts i l)
 
     module _ (call : ℕ → ℕ → List ℕ) (promise : (i j : ℕ) → i < usize → j < usize → call i j ≡ partOf b (recordPlace b i j)) where
       handed : (i : ℕ) → i < length ds → (j : ℕ) → j < length (lengths (statesOf b ds) (at ds i)) → call i j ≡ recordPart b (statesOf b ds) (at ds i) j

@@ -41,7 +41,7 @@ pub fn open_directory(p: &[u8]) -> DirectoryAnswer
     let sets = opened.sets;
     DirectoryAnswer {
         verdict: Verdict::Accepted,
-        directory: directory::read_directory(p, opened.headers_end, sets),
+        directory: directory::directory_from(p, opened.dsds, sets),
     }
 }
 
@@ -73,8 +73,7 @@ pub fn sph_place(p: &[u8]) -> Place
     if let Verdict::Refused(refusal) = verdict {
         return Place::Refused(refusal);
     }
-    let sets = opened.sets;
-    let lines = opened.headers_end - MainHeader::SIZE - dsd::Entry::SIZE * sets.entries;
+    let lines = opened.dsds - MainHeader::SIZE;
     Place::At {
         place: MainHeader::SIZE as u64,
         length: lines as u64,

@@ -2,7 +2,7 @@
 -- Assumes nothing.
 use mathlib.Core.Path.{sym, ap, _∙_}
 use Rattle.layout.specs.Answers.{verdictIs, directoryFor}
-use Rattle.product.proofs.Calls.{is-refused, is-accepted, now-headers}
+use Rattle.product.proofs.Calls.{is-refused, is-accepted, now-dsds, now-few, now-directory}
 use borrow.Author.Needs.{needs}
 use Rattle.product.proofs.open_directory.Statement.{statement}
 use Rattle.product.proofs.open_directory.Tie as tie
@@ -18,17 +18,27 @@ none-requires c κs = search needs
 
 returns : tie.Need-returns
 unfolding verdictIs
-returns c = (sym (is-refused _ _ (c .before .before .before .before .open-product .ensures) _ (c .before .before .verdict .given .1)), c .none .ensures ∙ ap (λ a. directoryFor a (c .before .before .before .before .before .before .args .p .now)) (sym (is-refused _ _ (c .before .before .before .before .open-product .ensures) _ (c .before .before .verdict .given .1))))
+returns c =
+    let r = is-refused _ _ (c .before .before .before .before .open-product .ensures) _ (c .before .before .verdict .given .1) in
+    let b = c .before .before .before .before .before .before .args .p .now in
+    (sym r, c .none .ensures ∙ ap (λ a. directoryFor a b) (sym r))
 
 enum-told : tie.Need-enum-told
 enum-told c = search needs
 
-read-directory-requires : tie.Need-read-directory-requires
-read-directory-requires c κs = (now-headers _ _ (c .before .before .before .open-product .ensures) (is-accepted _ _ (c .before .before .before .open-product .ensures) (c .before .enum-told .given .1)), c .before .before .before .open-product .ensures .held (is-accepted _ _ (c .before .before .before .open-product .ensures) (c .before .enum-told .given .1)))
+directory-from-requires : tie.Need-directory-from-requires
+directory-from-requires c κs =
+    let o = c .before .before .before .open-product .ensures in
+    let a = is-accepted _ _ o (c .before .enum-told .given .1) in
+    (now-dsds _ _ o a .1, now-few _ _ o a)
 
 returns-2 : tie.Need-returns-2
 unfolding verdictIs
-returns-2 c = (sym (is-accepted _ _ (c .before .before .before .before .open-product .ensures) (c .before .before .enum-told .given .1)), c .read-directory .ensures ∙ ap (λ a. directoryFor a (c .before .before .before .before .before .before .args .p .now)) (sym (is-accepted _ _ (c .before .before .before .before .open-product .ensures) (c .before .before .enum-told .given .1))))
+returns-2 c =
+    let o = c .before .before .before .before .open-product .ensures in
+    let a = is-accepted _ _ o (c .before .before .enum-told .given .1) in
+    let b = c .before .before .before .before .before .before .args .p .now in
+    (sym a, c .directory-from .ensures ∙ now-directory b _ o a ∙ ap (λ x. directoryFor x b) (sym a))
 
 pub open-directory-spec : {M : Type 1} → statement M
 open-directory-spec =
@@ -39,5 +49,5 @@ open-directory-spec =
     none-requires
     returns
     enum-told
-    read-directory-requires
+    directory-from-requires
     returns-2)

@@ -6,7 +6,7 @@ use native.Mathlib.Omega.{arith}
 use Rattle.layout.specs.Answer.{is}
 use Rattle.layout.specs.Answers.{placeIs}
 use Rattle.layout.specs.Records.{sphPlace}
-use Rattle.product.proofs.Calls.{is-refused, is-accepted, now-headers, lines-are}
+use Rattle.product.proofs.Calls.{is-refused, is-accepted, now-dsds, lines-are}
 use borrow.Author.Needs.{needs}
 use Rattle.product.proofs.sph_place.Statement.{statement}
 use Rattle.product.proofs.sph_place.Tie as tie
@@ -25,19 +25,15 @@ enum-told : tie.Need-enum-told
 enum-told c = search needs
 
 sub-lines : tie.Need-sub-lines
-sub-lines c = let h = now-headers _ _ (c .before .before .before .before .open-product .ensures) (is-accepted _ _ (c .before .before .before .before .open-product .ensures) (c .before .before .enum-told .given .1)) in omega (arith, h .room)
-
-mul-lines : tie.Need-mul-lines
-mul-lines c = let h = now-headers _ _ (c .before .before .before .before .before .open-product .ensures) (is-accepted _ _ (c .before .before .before .before .before .open-product .ensures) (c .before .before .before .enum-told .given .1)) in omega (arith, h .most)
-
-sub-lines-2 : tie.Need-sub-lines-2
-sub-lines-2 c = let h = now-headers _ _ (c .before .before .before .before .before .open-product .ensures) (is-accepted _ _ (c .before .before .before .before .before .open-product .ensures) (c .before .before .before .enum-told .given .1)) in omega (arith, h .room)
+sub-lines c =
+    let o = c .before .before .open-product .ensures in
+    omega (arith, now-dsds _ _ o (is-accepted _ _ o (c .enum-told .given .1)) .0)
 
 returns-2 : tie.Need-returns-2
 unfolding placeIs sphPlace
 returns-2 c =
-    let o = c .before .before .before .before .before .open-product .ensures in
-    let a = is-accepted _ _ o (c .before .before .before .enum-told .given .1) in
+    let o = c .before .before .open-product .ensures in
+    let a = is-accepted _ _ o (c .enum-told .given .1) in
     ap (λ (n : ℕ). is (record { place = 1247; length = n })) (lines-are _ _ o a) ∙ sym (rw a)
 
 pub sph-place-spec : {M : Type 1} → statement M
@@ -49,6 +45,4 @@ sph-place-spec =
     returns
     enum-told
     sub-lines
-    mul-lines
-    sub-lines-2
     returns-2)
