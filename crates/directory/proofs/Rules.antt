@@ -28,7 +28,7 @@ use Rattle.layout.specs.Rules.{linesOf, rule7At, rule7, rule8At, rule8, rule9At
 use Rattle.layout.proofs.Laws.{accepted≢refused, need-accepts, orElse-accepts, orElse-assoc, first-accepts-0, first-found, find-bounds}
 use Rattle.layout.proofs.Replies.{told-refused}
 use Rattle.layout.proofs.Padded.{padded-at}
-use Rattle.layout.proofs.Sound.{length-directory, at-directory, entry-at}
+use Rattle.layout.proofs.Sound.{length-directory, at-directory, entry-at, directory-from}
 use Rattle.layout.proofs.Tests.{is-true}
 use Rattle.layout.proofs.Types.{laidOut-typed}
 use Rattle.text.specs.Numbers.{numberIn}
@@ -258,8 +258,7 @@ module _ (b : List ℕ) (n end k : ℕ) (headers : Headers b end k) where
   dsds = end - 280 * k
 
   pub the-directory : entriesFrom b dsds k ≡ directory b
-  unfolding directory
-  the-directory = rw (← dsds-of headers .begin, ← headers .all)
+  the-directory = directory-from b dsds k (dsds-of headers .begin) (headers .all)
 
   module _ (r : Reading) (counted : Counted (entriesFrom b dsds k) r) where
     pub of-directory : Counted (directory b) r

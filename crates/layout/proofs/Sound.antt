@@ -52,6 +52,10 @@ module _ (b : List ℕ) (from n : ℕ) where
   unfolding entriesFrom at
   at-entries i h = getD-map-upto (entryFrom b from) (entryOf (replicate 280 32)) 0 n i h ∙ ap (entryFrom b from) (zero-add i)
 
+pub directory-from : (b : List ℕ) (from n : ℕ) → from ≡ dsdsAt b → n ≡ entries b → entriesFrom b from n ≡ directory b
+unfolding directory
+directory-from b from n f e = rw (f, e)
+
 pub length-directory : (b : List ℕ) → length (directory b) ≡ entries b
 unfolding directory
 length-directory b = length-entries b (dsdsAt b) (entries b)

@@ -20,7 +20,7 @@ use Rattle.layout.specs.declared.Place.{Place}
 use Rattle.layout.specs.declared.Place.the-variants as places
 use Rattle.layout.proofs.Laws.{orElse-accepts, need-accepts}
 use Rattle.layout.proofs.Replies.{told-refused, told-accepted, else-is, else-refusal}
-use Rattle.layout.proofs.Sound.{sound, length-directory}
+use Rattle.layout.proofs.Sound.{sound, directory-from, length-directory}
 use Rattle.layout.proofs.Whole.{record-inside}
 use Rattle.directory.specs.Numbers.{directoryWith}
 use Rattle.directory.specs.Opening.{Opened}
@@ -57,8 +57,9 @@ module _ (b : List ℕ) (o : Opening) (opened : Opened (verdict b) b o) where
     lines-are = rw (opened .begin a)
 
     pub now-directory : directoryWith (o .sets) (entriesFrom b (o .dsds) (o .sets .entries)) ≡ directoryOf (directory b)
-    unfolding directory
-    now-directory = rw (opened .begin a, all-entries) (with-numbers (o .sets) (directory b) (opened .held a))
+    now-directory =
+        ap (directoryWith (o .sets)) (directory-from b (o .dsds) (o .sets .entries) (opened .begin a) all-entries)
+        ∙ with-numbers (o .sets) (directory b) (opened .held a)
 
 -- ---- places and parts
 

@@ -26,14 +26,14 @@ enum-told c = search needs
 
 sub-lines : tie.Need-sub-lines
 sub-lines c =
-    let o = c .before .before .open-product .ensures in
-    omega (arith, now-dsds _ _ o (is-accepted _ _ o (c .enum-told .given .1)) .0)
+    let o = c .before .before .before .open-product .ensures in
+    omega (arith, now-dsds _ _ o (is-accepted _ _ o (c .before .enum-told .given .1)) .0)
 
 returns-2 : tie.Need-returns-2
 unfolding placeIs sphPlace
 returns-2 c =
-    let o = c .before .before .open-product .ensures in
-    let a = is-accepted _ _ o (c .enum-told .given .1) in
+    let o = c .before .before .before .open-product .ensures in
+    let a = is-accepted _ _ o (c .before .enum-told .given .1) in
     ap (λ (n : ℕ). is (record { place = 1247; length = n })) (lines-are _ _ o a) ∙ sym (rw a)
 
 pub sph-place-spec : {M : Type 1} → statement M
