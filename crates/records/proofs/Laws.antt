@@ -58,7 +58,7 @@ module _ (b : List ℕ) (sets : Sets) (opened : Open b sets) where
   pub laid : Laid sets (length b)
   laid = record { entries = ds; held = opened .held; fits = fits }
 
-  entries-held : sets .entries ≡ length ds
+  pub entries-held : sets .entries ≡ length ds
   unfolding setsOf
   entries-held = ap (λ (s : Sets). s .entries) (opened .held)
 
