@@ -21,8 +21,8 @@ use Rattle.header.specs.declared.HeaderCheck.{HeaderCheck}
 use Rattle.directory.specs.Checks.{Headers}
 use Rattle.directory.specs.Opening.{closed, Opened}
 use Rattle.directory.specs.declared.Opening.{Opening}
-use Rattle.states.specs.Laid.{Fitting, Laid, Every}
-use Rattle.states.proofs.Fits.{fitting}
+use Rattle.states.specs.Laid.{Laid, Every}
+use Rattle.states.proofs.Fits.{fitting, laid}
 use Rattle.opening.specs.Headers.{longestHeaders}
 
 -- a refusal of all rules asked
@@ -73,16 +73,13 @@ module _ (b : List ℕ) (x : Opening) (o : Opened (headerRules b (length b)) b x
     fourteen : headerRules b (length b) ≡ accepted
     fourteen = told-accepted (x .verdict) (headerRules b (length b)) good (o .judged)
 
-    fits-all : Fitting (directory b) (length b)
-    fits-all = fitting b (length b) (headed b (length b) fourteen)
-
-    pub laid : Laid (x .sets) (length b)
-    laid = record { entries = directory b; held = o .held fourteen; fits = fits-all }
+    pub numbers-laid : Laid (x .sets) (length b)
+    numbers-laid = laid b (length b) (x .sets) fourteen (o .held fourteen)
 
     module _ (v : Verdict) (every : Every (x .sets) (λ ds. verdictIs v ≡ stateRules ds (tallyOf (statesOf b ds)))) where
       by-states : verdictIs v ≡ verdict b
       unfolding verdict verdictFrom
-      by-states = every (directory b) (length b) (o .held fourteen) fits-all ∙ rw fourteen
+      by-states = every (directory b) (length b) (o .held fourteen) (fitting b (length b) (headed b (length b) fourteen)) ∙ rw fourteen
 
       pub states-refused : (r : Refusal) (y : Opening) → y ≡ closed r → v ≡ Refused r → Opened (verdict b) b y
       states-refused r y q h = refuses (verdict b) b r y q (told-refused v r (verdict b) h by-states)

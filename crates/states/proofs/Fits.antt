@@ -1,27 +1,26 @@
 -- Rules 15 and 16 of entries that fit a product: by their arrays, by the states that are looked at, and by capped sums.
 -- Assumes nothing.
-use Prim.Native.Nat.{ℕ, zero, suc, _+_, _*_, _-_, _^_, _≤_, _<_}
+use Prim.Native.Nat.{ℕ, zero, suc, _+_, _*_, _^_, _≤_, _<_}
 use mathlib.Core.Bool.{Bool, true, false, cond, _&&_, not}
 use mathlib.Core.List.{List, map}
 use mathlib.Core.Logic.{_⊎_, inl, inr}
 use mathlib.Core.Path.{_≡_, refl, sym, ap, _∙_, subst}
 use native.Mathlib.Omega.{arith}
-use native.Mathlib.Nat.{mul-comm, mul-le-mul-left}
-use lib.Dec.{T, leb, ltb, eqb, eqb→eq, leb→le}
+use native.Mathlib.Nat.{mul-comm, mul-div-cancel-left}
+use lib.Dec.{T, leb, ltb, eqb, leb→le}
 use lib.IntN.{pos, negℤ}
 use lib.Signed.{leZ, ltZ, _≤ℤ_}
 use lib.ListN.{length, getD}
-use borrow.Author.Tests.{eqb-true, eq-eqb, ne-eqb, lt-ltb, le-ltb}
-use Rattle.layout.specs.Bytes.{bytes, member}
+use borrow.Author.Tests.{eqb-true, eqb-false, eq-eqb, ne-eqb, lt-ltb, le-ltb}
 use Rattle.layout.specs.Text.{Number, whole}
 use Rattle.layout.specs.Answer.{Answer, accepted, refused, need, where′, _orElse_}
 use Rattle.layout.specs.Search.{some, count, find}
-use Rattle.layout.specs.Entries.{Entry, eqZ, directory, at, start, extent, nonEmpty, isData, isVariable, isStates, kindOf, called}
+use Rattle.layout.specs.Entries.{Entry, eqZ, directory, at, start, extent, nonEmpty, isData, isVariable, isStates, kindOf}
 use Rattle.layout.specs.States.{State, Tally, isStatesAt, statesEntry, stateAt, statesOf, tallyOf, ofKind}
 use Rattle.layout.specs.Rules.{headerRules, stateRules, isVariableAt, statesFit, rule15, isFilled, rule16, rule16At}
-use Rattle.layout.specs.Faults.{NonEmpty, Fixed, Variable, NumbersFit}
-use Rattle.layout.proofs.Laws.{lt-or-le, and-T, find-at, find-bounds, first-same, first-accepts-0, some-T, need-accepts, orElse-accepts, where-accepts}
-use Rattle.layout.proofs.Tests.{is-true, is-false, data-T, nonEmpty-T, variable-T, counted-once}
+use Rattle.layout.specs.Faults.{Fixed, Variable, NumbersFit}
+use Rattle.layout.proofs.Laws.{and-T, first-same, first-accepts-0, some-T, need-accepts, orElse-accepts, where-accepts}
+use Rattle.layout.proofs.Tests.{is-true, is-false, nonEmpty-T, variable-T, states-T, counted-once}
 use Rattle.layout.proofs.Sound.{length-directory, Headed, headed, no-count}
 use Rattle.directory.specs.Numbers.{setsOf}
 use Rattle.directory.specs.declared.Sets.{Sets}
@@ -65,53 +64,40 @@ at-least-whole n h = go (n .minus) (n .magnitude) (h .le)
     go true (suc k) h = absurd h
     go false k h = refl
 
-pub at-least : (n : Number) → pos 1 ≤ℤ whole n → 1 ≤ n .magnitude
+at-least : (n : Number) → pos 1 ≤ℤ whole n → 1 ≤ n .magnitude
 at-least n h = leb→le 1 (n .magnitude) (rw (at-least-whole n h) at (h .le))
 
-data-filled : (e : Entry) → NumbersFit e → T (isData e) → nonEmpty e ≡ ltb 0 (extent e)
-unfolding nonEmpty extent
-data-filled e fit d = rw (is-true (isData e) d) (above-zero (e .size) (fit .1 (data-T e .0 d) .0 .1 .0))
+-- an entry that describes states
+module _ (e : Entry) (fit : NumbersFit e) (is : T (isStates e)) where
+  type-a : e .type ≡ 65
+  type-a = states-T e .0 is .0
 
-not-m : (e : Entry) → T (isStates e) → e .type ≡ 77 → ⊥
-unfolding isStates
-not-m e h q = omega (arith, eqb→eq (e .type) 65 (and-T (eqb (e .type) 65) (called (e .name) (bytes "STATES")) .0 h .0))
+  states-filled : nonEmpty e ≡ ltb 0 (extent e)
+  unfolding nonEmpty isData extent
+  states-filled = rw type-a (above-zero (e .size) (fit .1 (inr (inl type-a)) .0 .1 .0))
 
-states-data : (e : Entry) → T (isStates e) → T (isData e)
-unfolding isStates isData
-states-data e h = let q : e .type ≡ 65 = eqb→eq (e .type) 65 (and-T (eqb (e .type) 65) (called (e .name) (bytes "STATES")) .0 h .0) in rw q tt
+  states-none : nonEmpty e ≡ false → e .count .magnitude ≡ 0
+  states-none = no-count e fit (inl (rw type-a tt))
 
-states-typed : (e : Entry) → T (isStates e) → T (member (e .type) (bytes "MAGR"))
-unfolding isStates
-states-typed e h = let q : e .type ≡ 65 = eqb→eq (e .type) 65 (and-T (eqb (e .type) 65) (called (e .name) (bytes "STATES")) .0 h .0) in rw q tt
+  -- where it is not empty, its DSR_SIZE is 1,387 exactly where so many times its NUM_DSR is its DS_SIZE
+  module _ (full : nonEmpty e ≡ true) where
+    fixed : (1 ≤ e .count .magnitude) × Fixed e
+    fixed = let f = nonEmpty-T e .0 (rw full tt) in let r = fit .1 (f .0) .1 .1 (f .1) in (at-least (e .count) (r .0), go (r .1))
+      where
+        go : Fixed e ⊎ Variable e → Fixed e
+        go (inl f) = f
+        go (inr f) = absurd (omega (arith, type-a, f .1 .1 .0))
 
--- equal records fill a set that is not of type M
-fixed-set : (e : Entry) → NumbersFit e → T (isData e) → nonEmpty e ≡ true → (e .type ≡ 77 → ⊥) → (1 ≤ e .count .magnitude) × Fixed e
-unfolding nonEmpty
-fixed-set e fit d full other =
-    let r = fit .1 (data-T e .0 d) .1 .1 (record { lt = and-T (isData e) (ltZ (pos 0) (whole (e .size))) .0 (rw full tt) .1 }) in
-    (at-least (e .count) (r .0), go (r .1))
-  where
-    go : Fixed e ⊎ Variable e → Fixed e
-    go (inl f) = f
-    go (inr f) = absurd (other (f .1 .1 .0))
+    same-size : e .count .magnitude * e .recordSize .magnitude ≡ e .count .magnitude * 1387 → e .recordSize .magnitude ≡ 1387
+    same-size q = sym (mul-div-cancel-left (e .recordSize .magnitude) (fixed .0)) ∙ rw q (mul-div-cancel-left 1387 (fixed .0))
 
--- then the record size is 1,387 exactly where so many times the count is the size
-size-test : (e : Entry) → Fixed e → 1 ≤ e .count .magnitude → eqZ (whole (e .recordSize)) (pos 1387) ≡ eqb (extent e) (1387 * e .count .magnitude)
-unfolding extent
-size-test e f c = go (lt-or-le (e .recordSize .magnitude) 1387) (lt-or-le 1387 (e .recordSize .magnitude))
-  where
-    value : whole (e .recordSize) ≡ pos (e .recordSize .magnitude)
-    value = at-least-whole (e .recordSize) (f .0)
-
-    other : (e .recordSize .magnitude ≡ 1387 → ⊥) → (e .size .magnitude ≡ 1387 * e .count .magnitude → ⊥) → eqZ (whole (e .recordSize)) (pos 1387) ≡ eqb (e .size .magnitude) (1387 * e .count .magnitude)
-    other x y = rw (value, ne-eqb (e .recordSize .magnitude) 1387 x, ne-eqb (e .size .magnitude) (1387 * e .count .magnitude) y)
-
-    go : (e .recordSize .magnitude < 1387) ⊎ (1387 ≤ e .recordSize .magnitude) → (1387 < e .recordSize .magnitude) ⊎ (e .recordSize .magnitude ≤ 1387) → eqZ (whole (e .recordSize)) (pos 1387) ≡ eqb (e .size .magnitude) (1387 * e .count .magnitude)
-    go (inl l) u = other (λ x. omega arith) (λ y. omega (arith, f .1, mul-le-mul-left (e .count .magnitude) l))
-    go (inr l) (inl u) = other (λ x. omega arith) (λ y. omega (arith, f .1, mul-le-mul-left (e .count .magnitude) u))
-    go (inr l) (inr u) =
-        let q : e .recordSize .magnitude ≡ 1387 = omega arith in
-        rw (value, eq-eqb (e .recordSize .magnitude) 1387 q, eq-eqb (e .size .magnitude) (1387 * e .count .magnitude) (sym (f .1) ∙ rw q (mul-comm (e .count .magnitude) 1387)))
+    size-decides : eqZ (whole (e .recordSize)) (pos 1387) ≡ eqb (extent e) (1387 * e .count .magnitude)
+    unfolding extent
+    size-decides = rw (at-least-whole (e .recordSize) (fixed .1 .0), ← fixed .1 .1, mul-comm 1387 (e .count .magnitude)) (go (eqb (e .recordSize .magnitude) 1387) refl)
+      where
+        go : (t : Bool) → eqb (e .recordSize .magnitude) 1387 ≡ t → t ≡ eqb (e .count .magnitude * e .recordSize .magnitude) (e .count .magnitude * 1387)
+        go true q = sym (eq-eqb (e .count .magnitude * e .recordSize .magnitude) (e .count .magnitude * 1387) (rw (eqb-true (e .recordSize .magnitude) 1387 q)))
+        go false q = sym (ne-eqb (e .count .magnitude * e .recordSize .magnitude) (e .count .magnitude * 1387) (λ h. eqb-false (e .recordSize .magnitude) 1387 q (same-size h)))
 
 -- ---- the rules, of a list of entries and any tally
 
@@ -205,20 +191,9 @@ module _ (ds : List Entry) where
       fit : NumbersFit e
       fit = fits .numbers (statesEntry ds) (only .0)
 
-      is-filled : nonEmpty e ≡ ltb 0 (extent e)
-      is-filled = data-filled e fit (states-data e (only .1))
-
-      no-states : nonEmpty e ≡ false → e .count .magnitude ≡ 0
-      no-states = no-count e fit (inl (states-typed e (only .1)))
-
-      module _ (full : nonEmpty e ≡ true) where
-        -- so many times 1,387 bytes tell DSR_SIZE
-        size-decides : sized ≡ eqb (extent e) (1387 * e .count .magnitude)
-        size-decides = let fixed = fixed-set e fit (states-data e (only .1)) full (not-m e (only .1)) in size-test e (fixed .1) (fixed .0)
-
-        states-inside : sized ≡ true → start e + 1387 * e .count .magnitude ≤ n
-        states-inside q =
-            omega (arith, eqb-true (extent e) (1387 * e .count .magnitude) (sym size-decides ∙ q), fits .inside (statesEntry ds) (only .0) (nonEmpty-T e .0 (rw full tt)))
+      states-inside : nonEmpty e ≡ true → sized ≡ true → start e + 1387 * e .count .magnitude ≤ n
+      states-inside full q =
+          omega (arith, eqb-true (extent e) (1387 * e .count .magnitude) (sym (size-decides e fit (only .1) full) ∙ q), fits .inside (statesEntry ds) (only .0) (nonEmpty-T e .0 (rw full tt)))
 
     -- what is looked at lies in the product
     pub span-inside : spanOf ds .place + 1387 * spanOf ds .count ≤ n
@@ -234,7 +209,7 @@ module _ (ds : List Entry) where
     span-states b h right = go (nonEmpty e) refl
       where
         go : (t : Bool) → nonEmpty e ≡ t → statesFrom b (spanOf ds .place) (spanOf ds .count) ≡ statesOf b ds
-        go false z = rw (← span-none (rw (h, z)), states-of b ds, no-states h z)
+        go false z = rw (← span-none (rw (h, z)), states-of b ds, states-none e (fit h) (only h .1) z)
         go true full = rw (← span-some (look-at h full (right full))) (sym (states-of b ds))
 
     -- so it is all states of a product that meets rule 15
@@ -335,10 +310,10 @@ module _ (sets : Sets) (ds : List Entry) (n : ℕ) (held : sets ≡ setsOf ds) (
       count-fits = rw count-is (fits .counts (statesEntry ds) (only ds n fits one .0))
 
       filled-is : nonEmpty (e ds) ≡ ltb 0 (getD (sets .sizes) i 0)
-      filled-is = is-filled ds n fits one ∙ rw size-is
+      filled-is = states-filled (e ds) (fit ds n fits one) (only ds n fits one .1) ∙ rw size-is
 
       sized-is : nonEmpty (e ds) ≡ true → sized ds ≡ eqb (getD (sets .sizes) i 0) (1387 * getD (sets .counts) i 0)
-      sized-is full = size-decides ds n fits one full ∙ rw (size-is, count-is)
+      sized-is full = size-decides (e ds) (fit ds n fits one) (only ds n fits one .1) full ∙ rw (size-is, count-is)
 
       pub empty-spanned : getD (sets .sizes) i 0 ≡ 0 → record { place = 0; count = 0 } ≡ spanOf ds
       unfolding areLookedAt

@@ -105,11 +105,11 @@ module _ (b : List ℕ) (start n : ℕ) where
   unfolding restFrom statesFrom
   rest-whole = rw (sub-zero n)
 
-  pub rest-step : (i : ℕ) → i < n → restFrom b start n i ≡ stateFrom b start i ∷ restFrom b start n (i + 1)
+  rest-step : (i : ℕ) → i < n → restFrom b start n i ≡ stateFrom b start i ∷ restFrom b start n (i + 1)
   unfolding restFrom
   rest-step i h = let q : n - i ≡ suc (n - suc i) = omega arith in rw (q, add-one i)
 
-  pub rest-end : (i : ℕ) → n ≤ i → restFrom b start n i ≡ []
+  rest-end : (i : ℕ) → n ≤ i → restFrom b start n i ≡ []
   unfolding restFrom
   rest-end i h = let q : n - i ≡ 0 = omega arith in rw q
 

@@ -4,12 +4,12 @@ use Prim.Native.Nat.{ℕ, zero, suc, _+_, _*_, _-_, _≤_, _<_}
 use mathlib.Core.Bool.{Bool, true, false, cond, and-false}
 use mathlib.Core.List.{List, [], _∷_, map}
 use mathlib.Core.Logic.{⊎-elim}
-use mathlib.Core.Path.{_≡_, refl, sym, ap, _∙_}
+use mathlib.Core.Path.{_≡_, refl, sym, _∙_}
 use native.Mathlib.Omega.{arith}
 use native.Mathlib.Nat.{add-zero, zero-add, add-assoc, mul-le-mul}
 use lib.Dec.{eqb}
 use lib.ListN.{length, getD, set, replicate, length-set}
-use lib.Seq.{ext-getD, getD-set-same, getD-set-other}
+use lib.Seq.{getD-set-same, getD-set-other}
 use borrow.Author.Tests.{le-leb, lt-leb, ne-eqb, eqb-true, eqb-false}
 use Rattle.layout.specs.Bytes.{within}
 use Rattle.layout.specs.Search.{upto, sum}
@@ -135,8 +135,14 @@ Four l = (length l ≡ 4) × Capped l
 pub added-four : (l : List ℕ) (kind more : ℕ) → Four l → Four (added l kind more)
 added-four l kind more f = (added-length l kind more ∙ f .0, added-capped l kind more (f .1))
 
-by-places : (l m : List ℕ) → length l ≡ 4 → length m ≡ 4 → ((i : ℕ) → i < 4 → getD l i 0 ≡ getD m i 0) → l ≡ m
-by-places l m e f h = ext-getD 0 l m (e ∙ sym f) (λ i u. h i (omega arith))
+-- an array of four, by its places
+by-places : (l : List ℕ) → length l ≡ 4 → l ≡ getD l 0 0 ∷ getD l 1 0 ∷ getD l 2 0 ∷ getD l 3 0 ∷ []
+by-places [] e = absurd (omega arith)
+by-places (a ∷ []) e = absurd (omega arith)
+by-places (a ∷ b ∷ []) e = absurd (omega arith)
+by-places (a ∷ b ∷ c ∷ []) e = absurd (omega arith)
+by-places (a ∷ b ∷ c ∷ d ∷ []) e = refl
+by-places (a ∷ b ∷ c ∷ d ∷ f ∷ l) e = absurd (omega arith)
 
 -- ---- sums that more states are to be added to
 
@@ -144,26 +150,20 @@ module _ (g : ℕ → State → ℕ) where
   unfoldable pub left : List ℕ → List State → List ℕ
   left l ss = map (λ k. capped (getD l (k - 1) 0 + sum (map (g k) ss))) (upto 1 4)
 
-  left-at : (l : List ℕ) (ss : List State) (i : ℕ) → i < 4 → getD (left l ss) i 0 ≡ capped (getD l i 0 + sum (map (g (suc i)) ss))
-  unfolding left
-  left-at l ss zero h = refl
-  left-at l ss (suc zero) h = refl
-  left-at l ss (suc (suc zero)) h = refl
-  left-at l ss (suc (suc (suc zero))) h = refl
-  left-at l ss (suc (suc (suc (suc i)))) h = absurd (omega arith)
-
-  left-length : (l : List ℕ) (ss : List State) → length (left l ss) ≡ 4
-  unfolding left
-  left-length l ss = refl
-
   pub left-none : (l : List ℕ) → Four l → l ≡ left l []
-  unfolding sum
-  left-none l f = by-places l (left l []) (f .0) (left-length l []) (λ i h. sym (rw (left-at l [] i h, add-zero) (capped-is (getD l i 0) (f .1 i))))
+  unfolding left sum
+  left-none l f = by-places l (f .0) ∙ (λ j. at 0 j ∷ at 1 j ∷ at 2 j ∷ at 3 j ∷ [])
+    where
+      at : (i : ℕ) → getD l i 0 ≡ capped (getD l i 0 + 0)
+      at i = sym (rw add-zero (capped-is (getD l i 0) (f .1 i)))
 
   pub left-step : (l : List ℕ) (kind more : ℕ) (s : State) (ss : List State) → length l ≡ 4 → ((k : ℕ) → cond (eqb kind k) more 0 ≡ g k s) → left (added l kind more) ss ≡ left l (s ∷ ss)
-  unfolding sum
-  left-step l kind more s ss e q = by-places (left (added l kind more) ss) (left l (s ∷ ss)) (left-length (added l kind more) ss) (left-length l (s ∷ ss)) (λ i h. rw (left-at (added l kind more) ss i h, left-at l (s ∷ ss) i h, added-at l kind more i e h, ← q (suc i)) (go (getD l i 0) (sum (map (g (suc i)) ss)) (eqb kind (suc i))))
+  unfolding left sum
+  left-step l kind more s ss e q = λ j. at 0 (omega arith) j ∷ at 1 (omega arith) j ∷ at 2 (omega arith) j ∷ at 3 (omega arith) j ∷ []
     where
       go : (x n : ℕ) (t : Bool) → capped (cond t (capped (x + more)) x + n) ≡ capped (x + (cond t more 0 + n))
       go x n true = rw (capped-plus, add-assoc)
       go x n false = rw zero-add
+
+      at : (i : ℕ) → i < 4 → capped (getD (added l kind more) i 0 + sum (map (g (suc i)) ss)) ≡ capped (getD l i 0 + (g (suc i) s + sum (map (g (suc i)) ss)))
+      at i h = rw (added-at l kind more i e h, ← q (suc i)) (go (getD l i 0) (sum (map (g (suc i)) ss)) (eqb kind (suc i)))

@@ -2,7 +2,7 @@
 -- Assumes nothing.
 use native.Mathlib.Omega.{arith}
 use borrow.Author.Needs.{needs}
-use Rattle.opening.proofs.Opened.{headers-refused, laid, states-refused, all-opened}
+use Rattle.opening.proofs.Opened.{headers-refused, numbers-laid, states-refused, all-opened}
 use Rattle.opening.proofs.open_product.Statement.{statement}
 use Rattle.opening.proofs.open_product.Tie as tie
 
@@ -19,7 +19,7 @@ enum-told-2 : tie.Need-enum-told-2
 enum-told-2 c = search needs
 
 judge-states-requires : tie.Need-judge-states-requires
-judge-states-requires c κs = laid _ _ (c .before .before .before .open-headers .ensures) (c .before .enum-told2 .given .1)
+judge-states-requires c κs = numbers-laid _ _ (c .before .before .before .open-headers .ensures) (c .before .enum-told2 .given .1)
 
 enum-known-states : tie.Need-enum-known-states
 enum-known-states c = search needs

@@ -5,7 +5,6 @@ use native.Mathlib.Omega.{arith}
 use native.Mathlib.Nat.{sub-zero}
 use Rattle.layout.specs.Answers.{verdictIs}
 use Rattle.states.proofs.Fits.{most-entries, no-variable, span-inside, tally-decides}
-use borrow.Author.Needs.{needs}
 use Rattle.states.proofs.judge_states.Statement.{statement}
 use Rattle.states.proofs.judge_states.Tie as tie
 

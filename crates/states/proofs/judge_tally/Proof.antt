@@ -27,7 +27,10 @@ refuse-requires : tie.Need-refuse-requires
 refuse-requires c κs = search needs
 
 returns-2 : tie.Need-returns-2
-returns-2 c = λ ds n held fits. c .refuse .ensures ∙ sym (none-described _ ds n held fits _ (c .before .before .only-states .ensures) _ (λ h. c .before .before .before .before .if1 .left ((rw sub-zero at (c .before .before .before .before .before .first-role .ensures)) ∙ h)) (c .before .if2 .taken))
+returns-2 c =
+    let i = c .before .before in
+    let f = i .before .before in
+    λ ds n held fits. c .refuse .ensures ∙ sym (none-described _ ds n held fits _ (i .only-states .ensures) _ (λ h. f .if1 .left ((rw sub-zero at (f .before .first-role .ensures)) ∙ h)) (c .before .if2 .taken))
 
 judge-described-requires : tie.Need-judge-described-requires
 judge-described-requires c κs =
@@ -36,7 +39,10 @@ judge-described-requires c κs =
     (s .pre, in-entries _ _ _ (s .pre .1 .held) (s .pre .1 .fits) _ here (c .if2 .left), here)
 
 returns-3 : tie.Need-returns-3
-returns-3 c = λ ds n held fits. c .judge-described .ensures ∙ one-described _ ds n held fits _ (c .before .before .only-states .ensures) _ (λ h. c .before .before .before .before .if1 .left ((rw sub-zero at (c .before .before .before .before .before .first-role .ensures)) ∙ h)) (c .before .if2 .left)
+returns-3 c =
+    let i = c .before .before in
+    let f = i .before .before in
+    λ ds n held fits. c .judge-described .ensures ∙ one-described _ ds n held fits _ (i .only-states .ensures) _ (λ h. f .if1 .left ((rw sub-zero at (f .before .first-role .ensures)) ∙ h)) (c .before .if2 .left)
 
 pub judge-tally-spec : {M : Type 1} → statement M
 judge-tally-spec =

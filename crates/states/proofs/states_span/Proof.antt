@@ -1,12 +1,11 @@
 -- `states::states_span` meets its contract.
 -- Assumes nothing.
 use Prim.Native.Nat.{ℕ, _^_, _≤_, _<_}
-use mathlib.Core.Path.{_≡_, _∙_}
+use mathlib.Core.Path.{_≡_}
 use native.Mathlib.Omega.{arith}
 use lib.ListN.{getD}
 use Rattle.states.specs.Roles.{onlyStates}
 use Rattle.states.proofs.Fits.{most-entries, in-entries, count-fits, none-spanned, empty-spanned, other-spanned, all-spanned}
-use borrow.Author.Needs.{needs}
 use Rattle.states.proofs.states_span.Statement.{statement}
 use Rattle.states.proofs.states_span.Tie as tie
 
@@ -23,34 +22,54 @@ returns : tie.Need-returns
 returns c = λ ds n held fits. none-spanned _ ds n held fits _ (c .before .only-states .ensures) (c .if1 .taken)
 
 mul-size : tie.Need-mul-size
-mul-size c = omega (arith, inside (c .before .before .before .before .before .before .before) _ (c .before .before .before .before .only-states .ensures) (c .before .before .before .if1 .left))
+mul-size c =
+    let f = c .before .before .before in
+    omega (arith, inside (f .before .before .before .before) _ (f .before .only-states .ensures) (f .if1 .left))
 
 array-read-size : tie.Need-array-read-size
-array-read-size c = omega (arith, inside (c .before .before .before .before .before .before .before) _ (c .before .before .before .before .only-states .ensures) (c .before .before .before .if1 .left))
+array-read-size c =
+    let f = c .before .before .before in
+    omega (arith, inside (f .before .before .before .before) _ (f .before .only-states .ensures) (f .if1 .left))
 
 mul-count : tie.Need-mul-count
-mul-count c = omega (arith, inside (c .before .before .before .before .before .before .before) _ (c .before .before .before .before .only-states .ensures) (c .before .before .before .if1 .left))
+mul-count c =
+    let f = c .before .before .before in
+    omega (arith, inside (f .before .before .before .before) _ (f .before .only-states .ensures) (f .if1 .left))
 
 array-read-count : tie.Need-array-read-count
-array-read-count c = omega (arith, inside (c .before .before .before .before .before .before .before) _ (c .before .before .before .before .only-states .ensures) (c .before .before .before .if1 .left))
+array-read-count c =
+    let f = c .before .before .before in
+    omega (arith, inside (f .before .before .before .before) _ (f .before .only-states .ensures) (f .if1 .left))
 
 returns-2 : tie.Need-returns-2
-returns-2 c = λ ds n held fits. empty-spanned _ ds n held fits _ (c .before .before .before .before .before .only-states .ensures) (c .before .before .before .before .if1 .left) (c .if2 .taken)
+returns-2 c =
+    let f = c .before .before .before .before in
+    λ ds n held fits. empty-spanned _ ds n held fits _ (f .before .only-states .ensures) (f .if1 .left) (c .if2 .taken)
 
 mul-if3 : tie.Need-mul-if3
-mul-if3 c = omega (arith, inside (c .before .before .before .before .before .before .before .before) _ (c .before .before .before .before .before .only-states .ensures) (c .before .before .before .before .if1 .left))
+mul-if3 c =
+    let f = c .before .before .before .before in
+    omega (arith, inside (f .before .before .before .before) _ (f .before .only-states .ensures) (f .if1 .left))
 
 returns-3 : tie.Need-returns-3
-returns-3 c = λ ds n held fits. other-spanned _ ds n held fits _ (c .before .before .before .before .before .before .only-states .ensures) (c .before .before .before .before .before .if1 .left) (c .before .if2 .left) (c .if3 .taken)
+returns-3 c =
+    let f = c .before .before .before .before .before in
+    λ ds n held fits. other-spanned _ ds n held fits _ (f .before .only-states .ensures) (f .if1 .left) (c .before .if2 .left) (c .if3 .taken)
 
 mul-t12 : tie.Need-mul-t12
-mul-t12 c = omega (arith, inside (c .before .before .before .before .before .before .before .before .before) _ (c .before .before .before .before .before .before .only-states .ensures) (c .before .before .before .before .before .if1 .left))
+mul-t12 c =
+    let f = c .before .before .before .before .before in
+    omega (arith, inside (f .before .before .before .before) _ (f .before .only-states .ensures) (f .if1 .left))
 
 array-read-t15 : tie.Need-array-read-t15
-array-read-t15 c = omega (arith, inside (c .before .before .before .before .before .before .before .before .before) _ (c .before .before .before .before .before .before .only-states .ensures) (c .before .before .before .before .before .if1 .left))
+array-read-t15 c =
+    let f = c .before .before .before .before .before in
+    omega (arith, inside (f .before .before .before .before) _ (f .before .only-states .ensures) (f .if1 .left))
 
 returns-4 : tie.Need-returns-4
-returns-4 c = λ ds n held fits. all-spanned _ ds n held fits _ (c .before .before .before .before .before .before .only-states .ensures) (c .before .before .before .before .before .if1 .left) (c .before .if2 .left) (c .if3 .left)
+returns-4 c =
+    let f = c .before .before .before .before .before in
+    λ ds n held fits. all-spanned _ ds n held fits _ (f .before .only-states .ensures) (f .if1 .left) (c .before .if2 .left) (c .if3 .left)
 
 pub states-span-spec : {M : Type 1} → statement M
 states-span-spec =

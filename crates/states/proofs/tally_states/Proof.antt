@@ -45,8 +45,10 @@ unfolding stateFrom stateIs
 loop-again c =
     let read = c .before .before .before in
     let l = read .before .before .loop in
-    let sums = with-capped _ _ _ _ (c .add-state .ensures) (l .inv .1) (l .inv .2) in
-    (omega arith, sums .0, sums .1, l .inv .3 ∙ after-step _ _ _ _ _ _ _ (omega arith) (read .at .ensures) (c .add-state .ensures))
+    let was = tally (l .bad) (l .counts) (l .totals) in
+    let next = tally (c .add-state .result) (c .add-state .last .1 .0) (c .add-state .last .1 .1 .0) in
+    let sums = with-capped was next (stateIs (read .at .result)) (l .i) (c .add-state .ensures) (l .inv .1) (l .inv .2) in
+    (omega arith, sums .0, sums .1, l .inv .3 ∙ after-step _ _ _ _ was next _ (omega arith) (read .at .ensures) (c .add-state .ensures))
 
 returns : tie.Need-returns Inv-loop μ-loop
 returns c = sym (after-end _ _ _ _ _ (c .loop-test .left)) ∙ sym (c .before .loop .inv .3) ∙ after-all _
