@@ -1,13 +1,13 @@
 -- Rules 7 to 14 put together from what the checks answer, and what rules 8 and 10 give to those after them: only entries with a set have a size.
 -- Assumes nothing.
 use Prim.Native.Nat.{ℕ, zero, suc, _+_, _*_, _-_, _≤_, _<_}
-use mathlib.Core.Bool.{Bool, true, false, _&&_, _||_, not, and-false}
+use mathlib.Core.Bool.{Bool, true, false, cond, _&&_, _||_, not, and-false}
 use mathlib.Core.List.{List}
 use mathlib.Core.Logic.{_⊎_, inl, inr, ⊎-elim}
 use mathlib.Core.Path.{_≡_, refl, sym, ap, _∙_, subst}
 use native.Mathlib.Omega.{arith}
 use native.Mathlib.Nat.{zero-add}
-use lib.Dec.{T, ltb, eqb, eqb→eq}
+use lib.Dec.{T, leb, ltb, eqb, eqb→eq}
 use lib.IntN.{pos, negsuc}
 use lib.Signed.{leZ, ltZ}
 use lib.ListN.{length, drop, getD, length-drop}
@@ -18,15 +18,12 @@ use Rattle.layout.specs.Text.{layout, lineClasses, valueClasses, valueWidth, qu
 use Rattle.layout.specs.Lines.{mph}
 use Rattle.layout.specs.Answer.{Answer, accepted, refused, need, _orElse_}
 use Rattle.layout.specs.Answers.{verdictIs}
-use Rattle.layout.specs.declared.Refusal.{Refusal}
 use Rattle.layout.specs.declared.Verdict.{Verdict}
-use Rattle.layout.specs.declared.Verdict.the-variants.{Accepted, Refused}
 use Rattle.layout.specs.Search.{first, laidOut}
 use Rattle.layout.specs.Sph.{sphLines}
-use Rattle.layout.specs.Entries.{Entry, eqZ, headerNumber, numDataSets, headersEnd, entries, dsdsAt, dsdAt, dsdBytes, entryOf, entryFrom, entriesFrom, entryAt, directory, at, start, extent, nonEmpty, isData, isReference, allZero, inRange, setFits, numbersFit}
+use Rattle.layout.specs.Entries.{Entry, eqZ, largestSigned, headerNumber, numDataSets, headersEnd, entries, dsdsAt, dsdAt, dsdBytes, entryOf, entriesFrom, entryAt, directory, at, start, extent, nonEmpty, isData, isReference, allZero, inRange, setFits, numbersFit}
 use Rattle.layout.specs.Rules.{linesOf, rule7At, rule7, rule8At, rule8, rule9At, rule9, rule10At, rule10, rule11, rule12, rule13, rule14, rules7to14}
-use Rattle.layout.proofs.Laws.{accepted≢refused, need-accepts, orElse-accepts, orElse-assoc, first-accepts-0, first-found, find-bounds}
-use Rattle.layout.proofs.Replies.{told-refused}
+use Rattle.layout.proofs.Laws.{need-accepts, orElse-accepts, orElse-assoc, first-accepts-0, first-found, find-bounds, find-at}
 use Rattle.layout.proofs.Padded.{padded-at}
 use Rattle.layout.proofs.Sound.{length-directory, at-directory, entry-at, directory-from}
 use Rattle.layout.proofs.Tests.{is-true}
@@ -34,13 +31,10 @@ use Rattle.layout.proofs.Types.{laidOut-typed}
 use Rattle.text.specs.Numbers.{numberIn}
 use Rattle.text.specs.declared.Number.{Number as HeldNumber}
 use Rattle.placement.specs.Sets.{Held}
-use Rattle.dsd.specs.Held.{numberFrom, heldOf, viewOf, overPlace, Read}
-use Rattle.dsd.specs.declared.Entry.{Entry as HeldEntry}
-use Rattle.dsd.proofs.Views.{turn-held, over-held}
-use Rattle.directory.specs.Numbers.{setsOf, heldSets}
-use Rattle.directory.specs.Checks.{Headers, Dsds, overAt, unfitAt, Counted, textRules, numberRules, placeRules, Placed}
-use Rattle.directory.specs.Opening.{closed, Opened}
-use Rattle.directory.specs.declared.Opening.{Opening}
+use Rattle.dsd.specs.Held.{numberFrom, heldOf, viewOf, overPlace}
+use Rattle.dsd.proofs.Views.{turn-held, capped-test}
+use Rattle.directory.specs.Numbers.{setsOf, heldStart, heldSets}
+use Rattle.directory.specs.Checks.{Headers, Dsds, overAt, unfitAt, Counted, ReadFrom, textRules, numberRules, placeRules, Placed}
 use Rattle.directory.proofs.Turns.{place, nine}
 use Rattle.directory.proofs.Held.{not-over, held-same}
 use Rattle.sph.specs.LineEnds.{firstBadLine}
@@ -165,6 +159,15 @@ module _ (b : List ℕ) (dsds n : ℕ) (placed : Dsds b dsds n) (r : Reading) (c
   twice true = refl
   twice false = refl
 
+  which : (t u : Bool) → T (not (eqb (cond t (cond u 0 170) 133) 0)) → _≡_ {A = ℕ} (cond t 170 133) (cond t (cond u 0 170) 133)
+  which true true h = absurd h
+  which true false h = refl
+  which false u h = refl
+
+  at-over : (i : ℕ) → i < entries b → overAt (directory b) i ≡ not (eqb (overPlace (entryAt b i)) 0)
+  unfolding overAt
+  at-over i l = rw (at-directory b i l)
+
   nine-by : rule9 b m ≡ need (eqb (r .within) n) 9 (dsds + 280 * r .within + overPlace (entryAt b (r .within))) (r .within)
   unfolding rule9 overAt
   nine-by =
@@ -207,6 +210,18 @@ module _ (b : List ℕ) (dsds n : ℕ) (placed : Dsds b dsds n) (r : Reading) (c
   unfolding numberRules
   nine-stops h = rw (nine-by, ne-eqb (r .within) n h)
 
+  -- which of the two numbers is over, by the offset held
+  pub over-by : (offsets : List ℕ) → offsets ≡ heldSets (directory b) .offsets → (r .within ≡ n → ⊥)
+      → cond (leb (getD offsets (r .within) 0) largestSigned) 170 133 ≡ overPlace (entryAt b (r .within))
+  unfolding heldSets heldOf overPlace
+  over-by offsets held h =
+      let inside : r .within < length (directory b) = omega (arith, within-most, length-all b dsds n placed) in
+      let k : r .within < entries b = omega (arith, length-directory b) in
+      let is : getD offsets (r .within) 0 ≡ heldStart (entryAt b (r .within)) = rw held (padded-at heldStart 0 128 (directory b) (r .within) inside ∙ ap heldStart (at-directory b (r .within) k)) in
+      let over = find-at (overAt (directory b)) 0 (length (directory b)) (omega (arith, counted .nine)) in
+      rw (is, capped-test (entryAt b (r .within) .offset .magnitude))
+      (which (leb (entryAt b (r .within) .offset .magnitude) largestSigned) (leb (entryAt b (r .within) .size .magnitude) largestSigned) (rw (← counted .nine, at-over (r .within) k) at over))
+
   -- where they accept, no number is over
   pub none-over : numberRules b m ≡ accepted → r .within ≡ n
   unfolding numberRules
@@ -214,44 +229,17 @@ module _ (b : List ℕ) (dsds n : ℕ) (placed : Dsds b dsds n) (r : Reading) (c
       let nine-ok = orElse-accepts (rule9 b m) (rule10 b m orElse rule11 b m) .0 h .0 in
       eqb→eq (r .within) n (need-accepts (eqb (r .within) n) 9 (dsds + 280 * r .within + overPlace (entryAt b (r .within))) (r .within) .0 (sym nine-by ∙ nine-ok))
 
--- the entry in which a number is over, read anew
-pub over-place : (b : List ℕ) (dsds n i : ℕ) → Dsds b dsds n → (h : HeldEntry) → Read b (dsds + 280 * i) h → overPlace (viewOf h) ≡ overPlace (entryAt b i)
-unfolding entryAt entryFrom
-over-place b dsds n i placed h read =
-    ap (λ (x : HeldEntry). overPlace (viewOf x)) (read .is) ∙ over-held (entryOf (part b (dsds + 280 * i) 280)) ∙ ap (λ (k : ℕ). overPlace (entryOf (part b (k + 280 * i) 280))) (placed .begin)
+pub over-one : (t : Bool) {r : ℕ} → r ≡ cond t 170 133 → r ≤ 170
+over-one true h = omega arith
+over-one false h = omega arith
 
 -- ---- the rules in their order
 
-module _ (b : List ℕ) (n : ℕ) where
-  abbrev places : Answer
-  places = placeRules (directory b) (headersEnd b) n
+pub rules-split : (b : List ℕ) (n : ℕ) → rules7to14 b n ≡ (textRules b n orElse (numberRules b n orElse placeRules (directory b) (headersEnd b) n))
+unfolding rules7to14 textRules numberRules placeRules rule12 rule13 rule14
+rules-split b n = sym (simp orElse-assoc)
 
-  rules-split : rules7to14 b n ≡ (textRules b n orElse (numberRules b n orElse places))
-  unfolding rules7to14 textRules numberRules placeRules rule12 rule13 rule14
-  rules-split = sym (simp orElse-assoc)
-
-  -- a check that refuses
-  stopped : (r : Refusal) (x : Opening) → x ≡ closed r → rules7to14 b n ≡ refused (r .number) (r .place) (r .entry) → Opened (rules7to14 b n) b x
-  unfolding verdictIs
-  stopped r x q h = rw q (record { judged = sym h; begin = λ a. absurd (accepted≢refused (sym a ∙ h)); held = λ a. absurd (accepted≢refused (sym a ∙ h)) })
-
-  pub text-refused : (r : Refusal) (x : Opening) → x ≡ closed r → (v : Verdict) → v ≡ Refused r → verdictIs v ≡ textRules b n → Opened (rules7to14 b n) b x
-  text-refused r x q v h t = stopped r x q (rules-split ∙ rw (told-refused v r (textRules b n) h t))
-
-  module _ (text : textRules b n ≡ accepted) where
-    pub numbers-refused : (r : Refusal) (x : Opening) → x ≡ closed r → (v : Verdict) → v ≡ Refused r → verdictIs v ≡ numberRules b n → Opened (rules7to14 b n) b x
-    numbers-refused r x q v h t = stopped r x q (rules-split ∙ rw (text, told-refused v r (numberRules b n) h t))
-
-    module _ (numbers : numberRules b n ≡ accepted) where
-      pub places-refused : (r : Refusal) (x : Opening) → x ≡ closed r → (v : Verdict) → v ≡ Refused r → verdictIs v ≡ places → Opened (rules7to14 b n) b x
-      places-refused r x q v h t = stopped r x q (rules-split ∙ rw (text, numbers, told-refused v r places h t))
-
-      pub all-passed : (dsds : ℕ) → dsds ≡ dsdsAt b → (sets : Sets) → sets ≡ setsOf (directory b) → places ≡ accepted
-          → Opened (rules7to14 b n) b (record { verdict = Accepted; dsds = dsds; sets = sets })
-      unfolding verdictIs
-      all-passed dsds d sets q t = record { judged = sym (rules-split ∙ rw (text, numbers, t)); begin = λ a. d; held = λ a. q }
-
--- ---- what check_sets goes by: a reading of the DSDs, and what rules 12 to 14 are answered of its numbers
+-- ---- a reading of the DSDs, and what rules 12 to 14 are answered of its numbers
 
 module _ (b : List ℕ) (n end k : ℕ) (headers : Headers b end k) where
   abbrev dsds : ℕ
@@ -261,8 +249,11 @@ module _ (b : List ℕ) (n end k : ℕ) (headers : Headers b end k) where
   the-directory = directory-from b dsds k (dsds-of headers .begin) (headers .all)
 
   module _ (r : Reading) (counted : Counted (entriesFrom b dsds k) r) where
-    pub of-directory : Counted (directory b) r
+    of-directory : Counted (directory b) r
     of-directory = subst (λ (ds : List Entry). Counted ds r) the-directory counted
+
+    pub read-from : (sets : Sets) → sets ≡ heldSets (entriesFrom b dsds k) → ReadFrom (directory b) r (sets .offsets)
+    read-from sets h = record { counted = of-directory; held = ap (λ (s : Sets). s .offsets) (h ∙ ap heldSets the-directory) }
 
     module _ (text : textRules b n ≡ accepted) (numbers : numberRules b n ≡ accepted) (sets : Sets) (held-are : sets ≡ heldSets (entriesFrom b dsds k)) where
       pub numbers-read : sets ≡ setsOf (directory b)

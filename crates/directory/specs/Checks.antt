@@ -14,6 +14,7 @@ use Rattle.layout.specs.Answers.{verdictIs}
 use Rattle.layout.specs.declared.Verdict.{Verdict}
 use Rattle.dsd.specs.Held.{overPlace, heldOf, viewOf}
 use Rattle.placement.specs.Sets.{Held}
+use Rattle.directory.specs.Numbers.{heldSets}
 use Rattle.directory.specs.declared.Reading.{Reading}
 
 -- ---- where the DSDs stand
@@ -48,6 +49,11 @@ pub record Counted (ds : List Entry) (r : Reading) : Type 0 where
   pub nine : r .within ≡ find (overAt ds) 0 (length ds)
   pub ten : r .fitting ≡ find (unfitAt ds) 0 (length ds)
   pub eleven : r .counted ≡ dataSets ds
+
+-- and these offsets are held
+pub record ReadFrom (ds : List Entry) (r : Reading) (offsets : List ℕ) : Type 0 where
+  pub counted : Counted ds r
+  pub held : offsets ≡ heldSets ds .offsets
 
 -- ---- the rules together, as the code checks them
 

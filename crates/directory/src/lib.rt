@@ -8,17 +8,17 @@ use writing::put_text;
 ghost use mathlib.Core.Bool.{cond};
 ghost use mathlib.Core.Path.{_≡_};
 ghost use Prim.Native.Nat.{ℕ, _+_, _*_, _≤_, _<_};
-ghost use lib.Dec.{ltb};
+ghost use lib.Dec.{leb, ltb};
 ghost use lib.ListN.{length};
 ghost use Rattle.layout.specs.Answer.{accepted};
 ghost use Rattle.layout.specs.Answers.{verdictIs};
-ghost use Rattle.layout.specs.Entries.{entriesFrom, directory};
+ghost use Rattle.layout.specs.Entries.{largestSigned, entriesFrom, directory};
 ghost use Rattle.layout.specs.Lines.{sizeOfDsd};
 ghost use Rattle.layout.specs.Rules.{rule8At, rules7to14};
 ghost use Rattle.layout.specs.Search.{first};
 ghost use Rattle.directory.specs.Numbers.{together, noSets, heldSets, directoryWith};
 ghost use Rattle.directory.specs.Texts.{textsFrom, Room};
-ghost use Rattle.directory.specs.Checks.{Headers, Dsds, Counted, textRules, numberRules, Placed};
+ghost use Rattle.directory.specs.Checks.{Headers, Dsds, Counted, ReadFrom, textRules, numberRules, Placed};
 ghost use Rattle.directory.specs.Opening.{closed, Opened};
 
 // The numbers and roles of up to 128 entries held together, unused places zero.
@@ -108,7 +108,7 @@ fn check_dsds(p: &[u8], dsds: usize, entries: usize) -> Verdict
 }
 
 // Rules 7 and 8: the SPH lines before the DSDs, and the DSDs.
-fn check_text(p: &[u8], dsds: usize, entries: usize) -> Verdict
+pub fn check_text(p: &[u8], dsds: usize, entries: usize) -> Verdict
     requires { ⌜ Dsds (now p) dsds entries ⌝ }
     ensures { λ r. ⌜ ((n : ℕ) → verdictIs r ≡ textRules (now (p .entry)) n) ⌝ }
 {
@@ -121,10 +121,10 @@ fn check_text(p: &[u8], dsds: usize, entries: usize) -> Verdict
 
 // What one reading of the entries counts: how many in a row from the first on have an offset and a size within 2^63 - 1 (rule 9), how many in a row
 // have numbers that fit (rule 10), and how many NUM_DATA_SETS counts (rule 11).
-struct Reading {
-    within: usize,
-    fitting: usize,
-    counted: usize,
+pub struct Reading {
+    pub within: usize,
+    pub fitting: usize,
+    pub counted: usize,
 }
 
 // How many entries in a row from the first on pass, if `row` of those before entry `i` do.
@@ -142,7 +142,7 @@ fn row_with(row: usize, i: usize, passes: bool) -> usize
 }
 
 // One reading of n DSDs from a place on, whatever their bytes are. The arrays are lent: one that a call answers is copied at each return.
-fn read_sets(
+pub fn read_sets(
     p: &[u8],
     from: usize,
     n: usize,
@@ -181,16 +181,31 @@ fn read_sets(
     }
 }
 
-// Rules 9 to 11, by what a reading counts.
-fn check_numbers(p: &[u8], dsds: usize, entries: usize, reading: Reading) -> Verdict
-    requires { ⌜ Dsds (now p) dsds entries × Counted (directory (now p)) reading ⌝ }
+// Where in a DSD the number stands that passes 2^63 - 1, by the offset held: DS_OFFSET's or DS_SIZE's sign.
+fn over_place(offset: u64) -> usize
+    ensures { λ r. ⌜ r ≡ cond (leb offset largestSigned) 170 133 ⌝ }
+{
+    if offset <= 9223372036854775807 {
+        return 170;
+    }
+    133
+}
+
+// Rules 9 to 11, by what a reading counts and the offsets that it holds.
+pub fn check_numbers<'a>(
+    p: &'a [u8],
+    dsds: usize,
+    entries: usize,
+    reading: Reading,
+    offsets: &'a [u64; 128],
+) -> Verdict
+    requires { ⌜ Dsds (now p) dsds entries × ReadFrom (directory (now p)) reading (now offsets) ⌝ }
     ensures { λ r. ⌜ ((n : ℕ) → verdictIs r ≡ numberRules (now (p .entry)) n) ⌝ }
 {
     let within = reading.within;
     if within != entries {
         let start = dsds + Entry::SIZE * within;
-        let entry = Entry::at(p, start);
-        return Verdict::refuse(9, (start + entry.over()) as u64, within);
+        return Verdict::refuse(9, (start + over_place(offsets[within])) as u64, within);
     }
     let fitting = reading.fitting;
     if fitting != entries {
@@ -207,7 +222,7 @@ fn check_numbers(p: &[u8], dsds: usize, entries: usize, reading: Reading) -> Ver
 }
 
 // Rules 12 to 14, by the numbers of the entries.
-fn check_places<'a>(
+pub fn check_places<'a>(
     offsets: &'a [u64; 128],
     sizes: &'a [u64; 128],
     entries: usize,
@@ -230,56 +245,6 @@ fn check_places<'a>(
         return Verdict::refuse(14, uncovered, 128);
     }
     Verdict::Accepted
-}
-
-// Rules 9 to 14, of a product of `length` bytes that meets rules 7 and 8. Its numbers are read once, into arrays made here.
-fn check_sets(p: &[u8], length: u64, headers_end: usize, entries: usize) -> Opening
-    requires { ⌜ Headers (now p) «headers_end» entries × (textRules (now p) length ≡ accepted) ⌝ }
-    ensures { λ r. ⌜ Opened (rules7to14 (now (p .entry)) length) (now (p .entry)) r ⌝ }
-{
-    let mut types = [0u8; 128];
-    let mut offsets = [0u64; 128];
-    let mut sizes = [0u64; 128];
-    let mut counts = [0u64; 128];
-    let mut record_sizes = [0i64; 128];
-    let mut roles = [0u8; 128];
-    let dsds = headers_end - Entry::SIZE * entries;
-    let reading = read_sets(
-        p,
-        dsds,
-        entries,
-        &mut types,
-        &mut offsets,
-        &mut sizes,
-        &mut counts,
-        &mut record_sizes,
-        &mut roles,
-    );
-    let numbers = check_numbers(p, dsds, entries, reading);
-    if let Verdict::Refused(refusal) = numbers {
-        return Opening::refuse(refusal);
-    }
-    let places = check_places(&offsets, &sizes, entries, headers_end as u64, length);
-    if let Verdict::Refused(refusal) = places {
-        return Opening::refuse(refusal);
-    }
-    Opening {
-        verdict: Verdict::Accepted,
-        dsds,
-        sets: Sets::of(entries, types, offsets, sizes, counts, record_sizes, roles),
-    }
-}
-
-// Rules 7 to 14, of a product of `length` bytes whose headers are at hand.
-pub fn check_directory(p: &[u8], length: u64, headers_end: usize, entries: usize) -> Opening
-    requires { ⌜ Headers (now p) «headers_end» entries ⌝ }
-    ensures { λ r. ⌜ Opened (rules7to14 (now (p .entry)) length) (now (p .entry)) r ⌝ }
-{
-    let text = check_text(p, headers_end - Entry::SIZE * entries, entries);
-    if let Verdict::Refused(refusal) = text {
-        return Opening::refuse(refusal);
-    }
-    check_sets(p, length, headers_end, entries)
 }
 
 // A text of each of n DSDs, from `place` on in the DSD and `width` bytes wide, one after the other into zeros.

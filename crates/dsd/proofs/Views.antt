@@ -19,7 +19,7 @@ use Rattle.dsd.proofs.Names.{kind-role, states-by-role, role-again}
 
 -- ---- numbers held at 2^63
 
-capped-test : (m : ℕ) → leb (capped m) largestSigned ≡ leb m largestSigned
+pub capped-test : (m : ℕ) → leb (capped m) largestSigned ≡ leb m largestSigned
 unfolding capped
 capped-test m = go (lt-or-le largestSigned m)
   where

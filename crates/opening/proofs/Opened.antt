@@ -1,90 +1,126 @@
--- The sixteen rules in the three parts that the code checks, and what opening answers at each.
+-- The rules asked, in the order in which the code checks them, and what opening answers at each.
 -- Assumes nothing.
-use Prim.Native.Nat.{ℕ, _≤_, min}
+use Prim.Native.Nat.{ℕ, _*_, _-_, _≤_, min}
+use mathlib.Core.Bool.{Bool, true, false}
 use mathlib.Core.List.{List}
-use mathlib.Core.Path.{_≡_, sym, _∙_}
+use mathlib.Core.Path.{_≡_, refl, sym, _∙_}
 use native.Mathlib.Omega.{arith}
 use lib.ListN.{length}
 use Rattle.layout.specs.Answer.{Answer, accepted, refused, _orElse_}
 use Rattle.layout.specs.Answers.{verdictIs}
-use Rattle.layout.specs.Entries.{directory}
-use Rattle.layout.specs.States.{statesOf, tallyOf}
-use Rattle.layout.specs.Rules.{rules1to6, rules7to14, headerRules, stateRules, verdictFrom, verdict}
+use Rattle.layout.specs.Entries.{headersEnd, entriesFrom, directory}
+use Rattle.layout.specs.Rules.{rules1to6, headerRules, verdictFrom, verdict}
 use Rattle.layout.specs.declared.Refusal.{Refusal}
 use Rattle.layout.specs.declared.Verdict.{Verdict}
 use Rattle.layout.specs.declared.Verdict.the-variants.{Accepted, Refused}
-use Rattle.layout.proofs.Laws.{accepted≢refused}
+use Rattle.layout.proofs.Laws.{accepted≢refused, orElse-assoc, orElse-accepted}
 use Rattle.layout.proofs.Replies.{told-refused, told-accepted}
 use Rattle.layout.proofs.Sound.{headed}
 use Rattle.header.specs.Checks.{HeaderChecked}
 use Rattle.header.specs.declared.HeaderCheck.{HeaderCheck}
-use Rattle.directory.specs.Checks.{Headers}
+use Rattle.directory.specs.Numbers.{setsOf, heldSets}
+use Rattle.directory.specs.Checks.{Headers, Counted, textRules, numberRules, placeRules, Placed}
 use Rattle.directory.specs.Opening.{closed, Opened}
 use Rattle.directory.specs.declared.Opening.{Opening}
+use Rattle.directory.specs.declared.Reading.{Reading}
+use Rattle.directory.specs.declared.Sets.{Sets}
+use Rattle.directory.proofs.Rules.{dsds-of, rules-split, numbers-read, places-are}
 use Rattle.states.specs.Laid.{Laid, Every}
 use Rattle.states.proofs.Fits.{fitting, laid}
-use Rattle.opening.specs.Headers.{longestHeaders}
+use Rattle.opening.specs.Asked.{longestHeaders, statesAsked, rulesAsked}
 
--- a refusal of all rules asked
-pub refuses : (a : Answer) (b : List ℕ) (r : Refusal) (x : Opening) → x ≡ closed r → a ≡ refused (r .number) (r .place) (r .entry) → Opened a b x
-unfolding verdictIs
-refuses a b r x q h = rw q (record { judged = sym h; begin = λ e. absurd (accepted≢refused (sym e ∙ h)); held = λ e. absurd (accepted≢refused (sym e ∙ h)) })
+module _ (whole : Bool) (b : List ℕ) (n : ℕ) where
+  abbrev places : Answer
+  places = placeRules (directory b) (headersEnd b) n
 
--- ---- rules 1 to 14
+  abbrev states : Answer
+  states = statesAsked whole b (directory b)
 
-module _ (b : List ℕ) (n : ℕ) (header : HeaderCheck) (checked : HeaderChecked b n header) where
-  pub header-refused : (r : Refusal) (x : Opening) → x ≡ closed r → header .verdict ≡ Refused r → Opened (headerRules b n) b x
-  unfolding headerRules
-  header-refused r x q h = refuses (headerRules b n) b r x q (rw (told-refused (header .verdict) r (rules1to6 b n) h (checked .verdict-is)))
+  in-order : rulesAsked whole b n ≡ (rules1to6 b n orElse (textRules b n orElse (numberRules b n orElse (places orElse states))))
+  unfolding rulesAsked headerRules
+  in-order = rw (rules-split b n) (simp orElse-assoc)
 
-  module _ (good : header .verdict ≡ Accepted) where
-    six : rules1to6 b n ≡ accepted
-    six = told-accepted (header .verdict) (rules1to6 b n) good (checked .verdict-is)
+  -- a refusal of the rules asked
+  stops : (r : Refusal) (x : Opening) → x ≡ closed r → rulesAsked whole b n ≡ refused (r .number) (r .place) (r .entry) → Opened (rulesAsked whole b n) b x
+  unfolding verdictIs
+  stops r x q h = rw q (record { judged = sym h; begin = λ e. absurd (accepted≢refused (sym e ∙ h)); held = λ e. absurd (accepted≢refused (sym e ∙ h)) })
 
-    pub headers : min n longestHeaders ≤ length b → Headers b (header .«headers_end») (header .entries)
-    headers enough =
-        let fit = checked .headers six in
-        record {
-          ends = fit .end-is;
-          all = fit .entries-are;
-          most = fit .entries-most;
-          room = fit .dsds-fit;
-          inside = omega (arith, fit .inside, fit .end-most);
-        }
+  -- ---- the main header
 
-    pub headers-opened : (x : Opening) → Opened (rules7to14 b n) b x → Opened (headerRules b n) b x
-    unfolding headerRules
-    headers-opened x o = rw six o
+  module _ (header : HeaderCheck) (checked : HeaderChecked b n header) where
+    pub header-refused : (r : Refusal) (x : Opening) → x ≡ closed r → header .verdict ≡ Refused r → Opened (rulesAsked whole b n) b x
+    header-refused r x q h = stops r x q (in-order ∙ rw (told-refused (header .verdict) r (rules1to6 b n) h (checked .verdict-is)))
 
--- ---- and rules 15 and 16
+    module _ (good : header .verdict ≡ Accepted) where
+      pub six : rules1to6 b n ≡ accepted
+      six = told-accepted (header .verdict) (rules1to6 b n) good (checked .verdict-is)
 
-stopped : (b : List ℕ) (m p e : ℕ) → headerRules b (length b) ≡ refused m p e → verdict b ≡ refused m p e
-unfolding verdict verdictFrom
-stopped b m p e h = rw h
+      pub headers : min n longestHeaders ≤ length b → Headers b (header .«headers_end») (header .entries)
+      headers enough =
+          let fit = checked .headers six in
+          record {
+            ends = fit .end-is;
+            all = fit .entries-are;
+            most = fit .entries-most;
+            room = fit .dsds-fit;
+            inside = omega (arith, fit .inside, fit .end-most);
+          }
 
-module _ (b : List ℕ) (x : Opening) (o : Opened (headerRules b (length b)) b x) where
-  pub headers-refused : (r : Refusal) → x .verdict ≡ Refused r → Opened (verdict b) b x
-  headers-refused r h =
-      let q = told-refused (x .verdict) r (headerRules b (length b)) h (o .judged) in
-      let all : verdict b ≡ refused (r .number) (r .place) (r .entry) = stopped b _ _ _ q in
-      record { judged = o .judged ∙ q ∙ sym all; begin = λ e. absurd (accepted≢refused (sym e ∙ all)); held = λ e. absurd (accepted≢refused (sym e ∙ all)) }
+  -- ---- text, numbers, places, states
 
-  module _ (good : x .verdict ≡ Accepted) where
-    fourteen : headerRules b (length b) ≡ accepted
-    fourteen = told-accepted (x .verdict) (headerRules b (length b)) good (o .judged)
+  module _ (six : rules1to6 b n ≡ accepted) where
+    pub text-refused : (r : Refusal) (x : Opening) → x ≡ closed r → (v : Verdict) → v ≡ Refused r → verdictIs v ≡ textRules b n → Opened (rulesAsked whole b n) b x
+    text-refused r x q v h t = stops r x q (in-order ∙ rw (six, told-refused v r (textRules b n) h t))
 
-    pub numbers-laid : Laid (x .sets) (length b)
-    numbers-laid = laid b (length b) (x .sets) fourteen (o .held fourteen)
+    module _ (text : textRules b n ≡ accepted) where
+      pub numbers-refused : (r : Refusal) (x : Opening) → x ≡ closed r → (v : Verdict) → v ≡ Refused r → verdictIs v ≡ numberRules b n → Opened (rulesAsked whole b n) b x
+      numbers-refused r x q v h t = stops r x q (in-order ∙ rw (six, text, told-refused v r (numberRules b n) h t))
 
-    module _ (v : Verdict) (every : Every (x .sets) (λ ds. verdictIs v ≡ stateRules ds (tallyOf (statesOf b ds)))) where
-      by-states : verdictIs v ≡ verdict b
-      unfolding verdict verdictFrom
-      by-states = every (directory b) (length b) (o .held fourteen) (fitting b (length b) (headed b (length b) fourteen)) ∙ rw fourteen
+      -- what a reading of the numbers holds, and what rules 12 to 14 are answered of it
+      module _ (end k : ℕ) (all : Headers b end k) (reading : Reading) (counted : Counted (entriesFrom b (end - 280 * k) k) reading)
+          (numbers : numberRules b n ≡ accepted) (sets : Sets) (held : sets ≡ heldSets (entriesFrom b (end - 280 * k) k))
+          (v : Verdict) (placed : Placed (sets .offsets) (sets .sizes) k end n v) where
+        by-places : verdictIs v ≡ places
+        by-places = places-are b n end k all reading counted text numbers sets held v placed
 
-      pub states-refused : (r : Refusal) (y : Opening) → y ≡ closed r → v ≡ Refused r → Opened (verdict b) b y
-      states-refused r y q h = refuses (verdict b) b r y q (told-refused v r (verdict b) h by-states)
+        pub places-refused : (r : Refusal) (x : Opening) → x ≡ closed r → v ≡ Refused r → Opened (rulesAsked whole b n) b x
+        places-refused r x q h = stops r x q (in-order ∙ rw (six, text, numbers, told-refused v r places h by-places))
 
-      pub all-opened : v ≡ Accepted → Opened (verdict b) b x
-      all-opened h =
-          let q = told-accepted v (verdict b) h by-states in
-          record { judged = o .judged ∙ fourteen ∙ sym q; begin = λ e. o .begin fourteen; held = λ e. o .held fourteen }
+        module _ (good : v ≡ Accepted) where
+          apart : places ≡ accepted
+          apart = told-accepted v places good by-places
+
+          fourteen : headerRules b n ≡ accepted
+          unfolding headerRules
+          fourteen = rw (six, rules-split b n, text, numbers, apart)
+
+          are : sets ≡ setsOf (directory b)
+          are = numbers-read b n end k all reading counted text numbers sets held
+
+          pub numbers-laid : (whole ≡ true → n ≡ length b) → (s : Sets) → s ≡ sets → whole ≡ true → Laid s (length b)
+          numbers-laid long s q w = rw (← long w) (laid b n s fourteen (q ∙ are))
+
+          module _ (s : Sets) (q : s ≡ sets) (u : Verdict) (every : Every s (λ ds. verdictIs u ≡ statesAsked whole b ds)) where
+            by-states : verdictIs u ≡ states
+            by-states = every (directory b) n (q ∙ are) (fitting b n (headed b n fourteen))
+
+            pub states-refused : (r : Refusal) (x : Opening) → x ≡ closed r → u ≡ Refused r → Opened (rulesAsked whole b n) b x
+            states-refused r x c h = stops r x c (in-order ∙ rw (six, text, numbers, apart, told-refused u r states h by-states))
+
+            pub all-passed : u ≡ Accepted → (dsds : ℕ) → dsds ≡ end - 280 * k → Opened (rulesAsked whole b n) b (record { verdict = Accepted; dsds = dsds; sets = s })
+            unfolding verdictIs
+            all-passed h dsds d = record {
+              judged = sym (in-order ∙ rw (six, text, numbers, apart, told-accepted u states h by-states));
+              begin = λ e. d ∙ dsds-of all .begin;
+              held = λ e. q ∙ are;
+            }
+
+-- ---- what is asked
+
+pub headers-asked : (b : List ℕ) (n : ℕ) → rulesAsked false b n ≡ headerRules b n
+unfolding rulesAsked statesAsked
+headers-asked b n = orElse-accepted (headerRules b n)
+
+pub all-asked : (b : List ℕ) → rulesAsked true b (length b) ≡ verdict b
+unfolding rulesAsked statesAsked verdict verdictFrom
+all-asked b = refl

@@ -1,40 +1,19 @@
 -- `opening::open_headers` meets its contract.
 -- Assumes nothing.
+use Prim.Native.Nat.{ℕ}
+use mathlib.Core.Path.{_≡_, subst}
 use native.Mathlib.Omega.{arith}
-use borrow.Author.Needs.{needs}
-use Rattle.opening.proofs.Opened.{header-refused, headers, headers-opened}
+use Rattle.layout.specs.Answer.{Answer}
+use Rattle.directory.specs.Opening.{Opened}
+use Rattle.opening.proofs.Opened.{headers-asked}
 use Rattle.opening.proofs.open_headers.Statement.{statement}
 use Rattle.opening.proofs.open_headers.Tie as tie
 
-check-header-requires : tie.Need-check-header-requires
-check-header-requires c κs = λ h. omega arith
-
-enum-known-verdict : tie.Need-enum-known-verdict
-enum-known-verdict c = search needs
-
-refuse-requires : tie.Need-refuse-requires
-refuse-requires c κs = search needs
+open-asked-requires : tie.Need-open-asked-requires
+open-asked-requires c κs = (c .before .pre, λ h. let z : _≡_ {A = ℕ} 0 1 = cc in absurd (omega arith))
 
 returns : tie.Need-returns
-returns c = header-refused _ _ _ (c .before .before .before .before .check-header .ensures) _ _ (c .refuse .ensures) (c .before .before .verdict .given .1)
-
-enum-told : tie.Need-enum-told
-enum-told c = search needs
-
-check-directory-requires : tie.Need-check-directory-requires
-check-directory-requires c κs = headers _ _ _ (c .before .before .check-header .ensures) (c .enum-told .given .1) (c .before .before .before .before .pre)
-
-returns-2 : tie.Need-returns-2
-returns-2 c = headers-opened _ _ _ (c .before .before .before .check-header .ensures) (c .before .enum-told .given .1) _ (c .check-directory .ensures)
+returns c = subst (λ (a : Answer). Opened a (c .before .before .args .p .now) (c .open-asked .result)) (headers-asked (c .before .before .args .p .now) (c .before .before .args .length)) (c .open-asked .ensures)
 
 pub open-headers-spec : {M : Type 1} → statement M
-open-headers-spec =
-    tie.close
-    (tie.spec
-    check-header-requires
-    enum-known-verdict
-    refuse-requires
-    returns
-    enum-told
-    check-directory-requires
-    returns-2)
+open-headers-spec = tie.close (tie.spec open-asked-requires returns)
