@@ -107,12 +107,13 @@ module _ (whole : Bool) (b : List ℕ) (n : ℕ) where
             pub states-refused : (r : Refusal) (x : Opening) → x ≡ closed r → u ≡ Refused r → Opened (rulesAsked whole b n) b x
             states-refused r x c h = stops r x c (in-order ∙ rw (six, text, numbers, apart, told-refused u r states h by-states))
 
-            pub all-passed : u ≡ Accepted → (dsds : ℕ) → dsds ≡ end - 280 * k → Opened (rulesAsked whole b n) b (record { verdict = Accepted; dsds = dsds; sets = s })
+            pub all-passed : u ≡ Accepted → (dsds : ℕ) → dsds ≡ end - 280 * k → (answer : Sets) → answer ≡ sets
+                → Opened (rulesAsked whole b n) b (record { verdict = Accepted; dsds = dsds; sets = answer })
             unfolding verdictIs
-            all-passed h dsds d = record {
+            all-passed h dsds d answer c = record {
               judged = sym (in-order ∙ rw (six, text, numbers, apart, told-accepted u states h by-states));
               begin = λ e. d ∙ dsds-of all .begin;
-              held = λ e. q ∙ are;
+              held = λ e. c ∙ are;
             }
 
 -- ---- what is asked

@@ -66,7 +66,7 @@ fn open_sets(p: &[u8], length: u64, headers_end: usize, entries: usize, whole: b
     Opening {
         verdict: Verdict::Accepted,
         dsds,
-        sets,
+        sets: Sets::of(entries, types, offsets, sizes, counts, record_sizes, roles),
     }
 }
 

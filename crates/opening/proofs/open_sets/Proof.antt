@@ -96,15 +96,18 @@ returns-3 c =
 enum-told-3 : tie.Need-enum-told-3
 enum-told-3 c = search needs
 
+of-requires-2 : tie.Need-of-requires-2
+of-requires-2 c κs = search needs
+
 returns-4 : tie.Need-returns-4
 returns-4 c =
-    let args = c .before .before .before .before .before .before .before .before .before .before .before .before .before .before .before .before .before .before .before .before .before .args in
-    let pre = c .before .before .before .before .before .before .before .before .before .before .before .before .before .before .before .before .before .before .before .before .before .pre in
+    let args = c .before .before .before .before .before .before .before .before .before .before .before .before .before .before .before .before .before .before .before .before .before .before .args in
+    let pre = c .before .before .before .before .before .before .before .before .before .before .before .before .before .before .before .before .before .before .before .before .before .before .pre in
     let b = args .p .now in
     let n = args .length in
-    let read = c .before .before .before .before .before .before .before .before .before .before .before .before .before .read-sets in
-    let numbers = told-accepted (c .before .before .before .before .before .before .before .before .before .before .before .check-numbers .result) _ (c .before .before .before .before .before .before .before .before .before .enum-told .given .1) (c .before .before .before .before .before .before .before .before .before .before .before .check-numbers .ensures n) in
-    all-passed (args .whole) b n (pre .1 .0) (pre .1 .1) (args .headers-end) (args .entries) (pre .0) (read .result) (read .ensures .0) numbers _ (read .ensures .1) _ (c .before .before .before .before .before .before .check-places .ensures) (c .before .before .before .before .enum-told2 .given .1) _ (c .before .before .before .of .ensures) _ (c .before .before .check-states .ensures) (c .enum-told3 .given .1) _ refl
+    let read = c .before .before .before .before .before .before .before .before .before .before .before .before .before .before .read-sets in
+    let numbers = told-accepted (c .before .before .before .before .before .before .before .before .before .before .before .before .check-numbers .result) _ (c .before .before .before .before .before .before .before .before .before .before .enum-told .given .1) (c .before .before .before .before .before .before .before .before .before .before .before .before .check-numbers .ensures n) in
+    all-passed (args .whole) b n (pre .1 .0) (pre .1 .1) (args .headers-end) (args .entries) (pre .0) (read .result) (read .ensures .0) numbers _ (read .ensures .1) _ (c .before .before .before .before .before .before .before .check-places .ensures) (c .before .before .before .before .before .enum-told2 .given .1) _ (c .before .before .before .before .of .ensures) _ (c .before .before .before .check-states .ensures) (c .before .enum-told3 .given .1) _ refl _ (c .of2 .ensures)
 
 pub open-sets-spec : {M : Type 1} → statement M
 open-sets-spec =
@@ -129,4 +132,5 @@ open-sets-spec =
     refuse-requires-3
     returns-3
     enum-told-3
+    of-requires-2
     returns-4)
