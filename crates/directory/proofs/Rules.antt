@@ -4,7 +4,7 @@ use Prim.Native.Nat.{ℕ, zero, suc, _+_, _*_, _-_, _≤_, _<_}
 use mathlib.Core.Bool.{Bool, true, false, cond, _&&_, _||_, not, and-false}
 use mathlib.Core.List.{List}
 use mathlib.Core.Logic.{_⊎_, inl, inr, ⊎-elim}
-use mathlib.Core.Path.{_≡_, refl, sym, ap, _∙_, subst}
+use mathlib.Core.Path.{_≡_, refl, sym, ap, _∙_}
 use native.Mathlib.Omega.{arith}
 use native.Mathlib.Nat.{zero-add}
 use lib.Dec.{T, leb, ltb, eqb, eqb→eq}
@@ -34,7 +34,7 @@ use Rattle.placement.specs.Sets.{Held}
 use Rattle.dsd.specs.Held.{numberFrom, heldOf, viewOf, overPlace}
 use Rattle.dsd.proofs.Views.{turn-held, capped-test}
 use Rattle.directory.specs.Numbers.{setsOf, heldStart, heldSets}
-use Rattle.directory.specs.Checks.{Headers, Dsds, overAt, unfitAt, Counted, ReadFrom, textRules, numberRules, placeRules, Placed}
+use Rattle.directory.specs.Checks.{Headers, Dsds, overAt, unfitAt, Counted, textRules, numberRules, placeRules, Placed}
 use Rattle.directory.proofs.Turns.{place, nine}
 use Rattle.directory.proofs.Held.{not-over, held-same}
 use Rattle.sph.specs.LineEnds.{firstBadLine}
@@ -134,7 +134,7 @@ module _ (e : Entry) (fit : numbersFit e ≡ true) where
       go false h = let z = no-size h s in sym (le-ltb 0 (e .size .magnitude) (omega arith))
 
 -- what the arrays hold where rules 8 and 10 accept
-module _ (b : List ℕ) (sets : Sets) (read : sets ≡ setsOf (directory b)) (m : ℕ) (eight : rule8 b m ≡ accepted) (ten : rule10 b m ≡ accepted) where
+module _ (b : List ℕ) (m : ℕ) (eight : rule8 b m ≡ accepted) (ten : rule10 b m ≡ accepted) where
   entry-sized : (i : ℕ) → i < length (directory b) → nonEmpty (at (directory b) i) ≡ ltb 0 (extent (at (directory b) i))
   unfolding rule8 rule8At rule10 rule10At
   entry-sized i l =
@@ -143,12 +143,12 @@ module _ (b : List ℕ) (sets : Sets) (read : sets ≡ setsOf (directory b)) (m 
       let fit = need-accepts (numbersFit (entryAt b i)) 10 (dsdAt b i) i .0 (first-accepts-0 (rule10At b) (entries b) .0 ten i k) in
       rw (at-directory b i k) (sized (entryAt b i) (is-true (numbersFit (entryAt b i)) fit) (rw (entry-at b i) (laidOut-sized (dsdBytes b i) 8 i (dsdAt b i) laid)))
 
-  pub held : Held (directory b) (sets .offsets) (sets .sizes)
+  held : (offsets sizes : List ℕ) → offsets ≡ setsOf (directory b) .offsets → sizes ≡ setsOf (directory b) .sizes → Held (directory b) offsets sizes
   unfolding setsOf
-  held =
+  held offsets sizes o s =
       record {
-        starts = λ i l. ap (λ (s : Sets). getD (s .offsets) i 0) read ∙ padded-at start 0 128 (directory b) i l;
-        extents = λ i l. ap (λ (s : Sets). getD (s .sizes) i 0) read ∙ padded-at extent 0 128 (directory b) i l;
+        starts = λ i l. ap (λ (x : List ℕ). getD x i 0) o ∙ padded-at start 0 128 (directory b) i l;
+        extents = λ i l. ap (λ (x : List ℕ). getD x i 0) s ∙ padded-at extent 0 128 (directory b) i l;
         filled = entry-sized;
       }
 
@@ -241,31 +241,24 @@ rules-split b n = sym (simp orElse-assoc)
 
 -- ---- a reading of the DSDs, and what rules 12 to 14 are answered of its numbers
 
-module _ (b : List ℕ) (n end k : ℕ) (headers : Headers b end k) where
+module _ (b : List ℕ) (end k : ℕ) (headers : Headers b end k) where
   abbrev dsds : ℕ
   dsds = end - 280 * k
 
   pub the-directory : entriesFrom b dsds k ≡ directory b
   the-directory = directory-from b dsds k (dsds-of headers .begin) (headers .all)
 
-  module _ (r : Reading) (counted : Counted (entriesFrom b dsds k) r) where
-    of-directory : Counted (directory b) r
-    of-directory = subst (λ (ds : List Entry). Counted ds r) the-directory counted
+  module _ (n : ℕ) (text : textRules b n ≡ accepted) (r : Reading) (counted : Counted (directory b) r) (numbers : numberRules b n ≡ accepted) where
+    pub numbers-read : heldSets (directory b) ≡ setsOf (directory b)
+    numbers-read = numbers-are b dsds k (dsds-of headers) r counted n (none-over b dsds k (dsds-of headers) r counted n numbers)
 
-    pub read-from : (sets : Sets) → sets ≡ heldSets (entriesFrom b dsds k) → ReadFrom (directory b) r (sets .offsets)
-    read-from sets h = record { counted = of-directory; held = ap (λ (s : Sets). s .offsets) (h ∙ ap heldSets the-directory) }
-
-    module _ (text : textRules b n ≡ accepted) (numbers : numberRules b n ≡ accepted) (sets : Sets) (held-are : sets ≡ heldSets (entriesFrom b dsds k)) where
-      pub numbers-read : sets ≡ setsOf (directory b)
-      numbers-read =
-          held-are
-          ∙ ap heldSets the-directory
-          ∙ numbers-are b dsds k (dsds-of headers) r of-directory n (none-over b dsds k (dsds-of headers) r of-directory n numbers)
-
-      pub places-are : (v : Verdict) → Placed (sets .offsets) (sets .sizes) k end n v → verdictIs v ≡ placeRules (directory b) (headersEnd b) n
-      unfolding textRules numberRules
-      places-are v p =
-          let eight = orElse-accepts (rule7 b n) (rule8 b n) .0 text .1 in
-          let ten = orElse-accepts (rule10 b n) (rule11 b n) .0 (orElse-accepts (rule9 b n) (rule10 b n orElse rule11 b n) .0 numbers .1) .0 in
-          p .answer (directory b) (held b sets numbers-read n eight ten) (length-all b dsds k (dsds-of headers))
-          ∙ ap (λ (h : ℕ). placeRules (directory b) h n) (headers .ends)
+    pub places-are : (offsets sizes : List ℕ) → offsets ≡ heldSets (directory b) .offsets → sizes ≡ heldSets (directory b) .sizes
+        → (v : Verdict) → Placed offsets sizes k end n v → verdictIs v ≡ placeRules (directory b) (headersEnd b) n
+    unfolding textRules numberRules
+    places-are offsets sizes o s v p =
+        let eight = orElse-accepts (rule7 b n) (rule8 b n) .0 text .1 in
+        let ten = orElse-accepts (rule10 b n) (rule11 b n) .0 (orElse-accepts (rule9 b n) (rule10 b n orElse rule11 b n) .0 numbers .1) .0 in
+        let starts = o ∙ ap (λ (x : Sets). x .offsets) numbers-read in
+        let extents = s ∙ ap (λ (x : Sets). x .sizes) numbers-read in
+        p .answer (directory b) (held b n eight ten offsets sizes starts extents) (length-all b dsds k (dsds-of headers))
+        ∙ ap (λ (h : ℕ). placeRules (directory b) h n) (headers .ends)

@@ -3,17 +3,17 @@
 use Prim.Native.Nat.{ℕ, _*_, _-_, _≤_, min}
 use mathlib.Core.Bool.{Bool, true, false}
 use mathlib.Core.List.{List}
-use mathlib.Core.Path.{_≡_, refl, sym, _∙_}
+use mathlib.Core.Path.{_≡_, refl, sym, ap, _∙_, subst}
 use native.Mathlib.Omega.{arith}
 use lib.ListN.{length}
 use Rattle.layout.specs.Answer.{Answer, accepted, refused, _orElse_}
 use Rattle.layout.specs.Answers.{verdictIs}
-use Rattle.layout.specs.Entries.{headersEnd, entriesFrom, directory}
+use Rattle.layout.specs.Entries.{Entry, headersEnd, entriesFrom, directory}
 use Rattle.layout.specs.Rules.{rules1to6, headerRules, verdictFrom, verdict}
 use Rattle.layout.specs.declared.Refusal.{Refusal}
 use Rattle.layout.specs.declared.Verdict.{Verdict}
 use Rattle.layout.specs.declared.Verdict.the-variants.{Accepted, Refused}
-use Rattle.layout.proofs.Laws.{accepted≢refused, orElse-assoc, orElse-accepted}
+use Rattle.layout.proofs.Laws.{accepted≢refused, orElse-accepts, orElse-assoc, orElse-accepted}
 use Rattle.layout.proofs.Replies.{told-refused, told-accepted}
 use Rattle.layout.proofs.Sound.{headed}
 use Rattle.header.specs.Checks.{HeaderChecked}
@@ -24,97 +24,141 @@ use Rattle.directory.specs.Opening.{closed, Opened}
 use Rattle.directory.specs.declared.Opening.{Opening}
 use Rattle.directory.specs.declared.Reading.{Reading}
 use Rattle.directory.specs.declared.Sets.{Sets}
-use Rattle.directory.proofs.Rules.{dsds-of, rules-split, numbers-read, places-are}
+use Rattle.directory.proofs.Rules.{dsds-of, rules-split, the-directory, numbers-read, places-are}
 use Rattle.states.specs.Laid.{Laid, Every}
 use Rattle.states.proofs.Fits.{fitting, laid}
-use Rattle.opening.specs.Asked.{longestHeaders, statesAsked, rulesAsked}
+use Rattle.opening.specs.Asked.{longestHeaders, frontRules, setRules, statesAsked, rulesAsked, Fronted, FrontChecked, SetsRead}
+
+-- ---- rules 1 to 8
+
+module _ (b : List ℕ) (n : ℕ) (header : HeaderCheck) (checked : HeaderChecked b n header) where
+  stays : {m p e : ℕ} → rules1to6 b n ≡ refused m p e → frontRules b n ≡ refused m p e
+  unfolding frontRules
+  stays q = rw q
+
+  pub header-refused : (r : Refusal) → header .verdict ≡ Refused r → FrontChecked b n header
+  header-refused r h =
+      let q = told-refused (header .verdict) r (rules1to6 b n) h (checked .verdict-is) in
+      let all : frontRules b n ≡ refused (r .number) (r .place) (r .entry) = stays q in
+      record { judged = checked .verdict-is ∙ q ∙ sym all; good = λ e. absurd (accepted≢refused (sym e ∙ all)) }
+
+  module _ (good : header .verdict ≡ Accepted) where
+    six : rules1to6 b n ≡ accepted
+    six = told-accepted (header .verdict) (rules1to6 b n) good (checked .verdict-is)
+
+    pub headers : min n longestHeaders ≤ length b → Headers b (header .«headers_end») (header .entries)
+    headers enough =
+        let fit = checked .headers six in
+        record {
+          ends = fit .end-is;
+          all = fit .entries-are;
+          most = fit .entries-most;
+          room = fit .dsds-fit;
+          inside = omega (arith, fit .inside, fit .end-most);
+        }
+
+    pub text-checked : min n longestHeaders ≤ length b → (v : Verdict) → verdictIs v ≡ textRules b n
+        → FrontChecked b n (record { verdict = v; «headers_end» = header .«headers_end»; entries = header .entries })
+    unfolding frontRules
+    text-checked enough v h = record { judged = h ∙ sym (rw six); good = λ e. record { rules = e; headers = headers enough } }
+
+-- ---- rules 9 to 14
+
+module _ (b : List ℕ) (n : ℕ) (front : HeaderCheck) (fronted : Fronted b n front) (reading : Reading) (offsets sizes : List ℕ) (read : SetsRead (directory b) reading offsets sizes) where
+  text : textRules b n ≡ accepted
+  unfolding frontRules
+  text = orElse-accepts (rules1to6 b n) (textRules b n) .0 (fronted .rules) .1
+
+  pub numbers-refused : (r : Refusal) (v : Verdict) → v ≡ Refused r → verdictIs v ≡ numberRules b n → verdictIs v ≡ setRules b n
+  unfolding setRules
+  numbers-refused r v h t = t ∙ rw (told-refused v r (numberRules b n) h t)
+
+  pub places-last : (u : Verdict) → u ≡ Accepted → verdictIs u ≡ numberRules b n
+      → (v : Verdict) → Placed offsets sizes (front .entries) (front .«headers_end») n v → verdictIs v ≡ setRules b n
+  unfolding setRules
+  places-last u good t v placed =
+      let numbers = told-accepted u (numberRules b n) good t in
+      places-are b (front .«headers_end») (front .entries) (fronted .headers) n text reading (read .counted) numbers offsets sizes (read .starts) (read .extents) v placed
+      ∙ sym (rw numbers)
+
+-- ---- all that is asked
 
 module _ (whole : Bool) (b : List ℕ) (n : ℕ) where
-  abbrev places : Answer
-  places = placeRules (directory b) (headersEnd b) n
-
   abbrev states : Answer
   states = statesAsked whole b (directory b)
 
-  in-order : rulesAsked whole b n ≡ (rules1to6 b n orElse (textRules b n orElse (numberRules b n orElse (places orElse states))))
-  unfolding rulesAsked headerRules
-  in-order = rw (rules-split b n) (simp orElse-assoc)
+  headers-split : headerRules b n ≡ (frontRules b n orElse setRules b n)
+  unfolding headerRules frontRules setRules
+  headers-split = rw (rules-split b n) (sym (simp orElse-assoc))
+
+  in-order : rulesAsked whole b n ≡ (frontRules b n orElse (setRules b n orElse states))
+  unfolding rulesAsked
+  in-order = rw headers-split (orElse-assoc (frontRules b n) (setRules b n) states)
 
   -- a refusal of the rules asked
   stops : (r : Refusal) (x : Opening) → x ≡ closed r → rulesAsked whole b n ≡ refused (r .number) (r .place) (r .entry) → Opened (rulesAsked whole b n) b x
   unfolding verdictIs
   stops r x q h = rw q (record { judged = sym h; begin = λ e. absurd (accepted≢refused (sym e ∙ h)); held = λ e. absurd (accepted≢refused (sym e ∙ h)) })
 
-  -- ---- the main header
+  module _ (front : HeaderCheck) (checked : FrontChecked b n front) where
+    pub front-refused : (r : Refusal) (x : Opening) → x ≡ closed r → front .verdict ≡ Refused r → Opened (rulesAsked whole b n) b x
+    front-refused r x q h = stops r x q (in-order ∙ rw (told-refused (front .verdict) r (frontRules b n) h (checked .judged)))
 
-  module _ (header : HeaderCheck) (checked : HeaderChecked b n header) where
-    pub header-refused : (r : Refusal) (x : Opening) → x ≡ closed r → header .verdict ≡ Refused r → Opened (rulesAsked whole b n) b x
-    header-refused r x q h = stops r x q (in-order ∙ rw (told-refused (header .verdict) r (rules1to6 b n) h (checked .verdict-is)))
+    module _ (good : front .verdict ≡ Accepted) where
+      pub fronted : Fronted b n front
+      fronted = checked .good (told-accepted (front .verdict) (frontRules b n) good (checked .judged))
 
-    module _ (good : header .verdict ≡ Accepted) where
-      pub six : rules1to6 b n ≡ accepted
-      six = told-accepted (header .verdict) (rules1to6 b n) good (checked .verdict-is)
+      pub entries-are : entriesFrom b (front .«headers_end» - 280 * front .entries) (front .entries) ≡ directory b
+      entries-are = the-directory b (front .«headers_end») (front .entries) (fronted .headers)
 
-      pub headers : min n longestHeaders ≤ length b → Headers b (header .«headers_end») (header .entries)
-      headers enough =
-          let fit = checked .headers six in
-          record {
-            ends = fit .end-is;
-            all = fit .entries-are;
-            most = fit .entries-most;
-            room = fit .dsds-fit;
-            inside = omega (arith, fit .inside, fit .end-most);
-          }
+      -- what a reading of the numbers holds
+      module _ (reading : Reading) (counted : Counted (entriesFrom b (front .«headers_end» - 280 * front .entries) (front .entries)) reading)
+          (sets : Sets) (held : sets ≡ heldSets (entriesFrom b (front .«headers_end» - 280 * front .entries) (front .entries))) where
+        of-directory : Counted (directory b) reading
+        of-directory = subst (λ (ds : List Entry). Counted ds reading) entries-are counted
 
-  -- ---- text, numbers, places, states
+        held-are : sets ≡ heldSets (directory b)
+        held-are = held ∙ ap heldSets entries-are
 
-  module _ (six : rules1to6 b n ≡ accepted) where
-    pub text-refused : (r : Refusal) (x : Opening) → x ≡ closed r → (v : Verdict) → v ≡ Refused r → verdictIs v ≡ textRules b n → Opened (rulesAsked whole b n) b x
-    text-refused r x q v h t = stops r x q (in-order ∙ rw (six, told-refused v r (textRules b n) h t))
+        pub sets-read : SetsRead (directory b) reading (sets .offsets) (sets .sizes)
+        sets-read = record { counted = of-directory; starts = ap (λ (s : Sets). s .offsets) held-are; extents = ap (λ (s : Sets). s .sizes) held-are }
 
-    module _ (text : textRules b n ≡ accepted) where
-      pub numbers-refused : (r : Refusal) (x : Opening) → x ≡ closed r → (v : Verdict) → v ≡ Refused r → verdictIs v ≡ numberRules b n → Opened (rulesAsked whole b n) b x
-      numbers-refused r x q v h t = stops r x q (in-order ∙ rw (six, text, told-refused v r (numberRules b n) h t))
+        module _ (v : Verdict) (by-sets : verdictIs v ≡ setRules b n) where
+          pub sets-refused : (r : Refusal) (x : Opening) → x ≡ closed r → v ≡ Refused r → Opened (rulesAsked whole b n) b x
+          sets-refused r x q h = stops r x q (in-order ∙ rw (fronted .rules, told-refused v r (setRules b n) h by-sets))
 
-      -- what a reading of the numbers holds, and what rules 12 to 14 are answered of it
-      module _ (end k : ℕ) (all : Headers b end k) (reading : Reading) (counted : Counted (entriesFrom b (end - 280 * k) k) reading)
-          (numbers : numberRules b n ≡ accepted) (sets : Sets) (held : sets ≡ heldSets (entriesFrom b (end - 280 * k) k))
-          (v : Verdict) (placed : Placed (sets .offsets) (sets .sizes) k end n v) where
-        by-places : verdictIs v ≡ places
-        by-places = places-are b n end k all reading counted text numbers sets held v placed
+          module _ (fine : v ≡ Accepted) where
+            set-rules : setRules b n ≡ accepted
+            set-rules = told-accepted v (setRules b n) fine by-sets
 
-        pub places-refused : (r : Refusal) (x : Opening) → x ≡ closed r → v ≡ Refused r → Opened (rulesAsked whole b n) b x
-        places-refused r x q h = stops r x q (in-order ∙ rw (six, text, numbers, told-refused v r places h by-places))
+            fourteen : headerRules b n ≡ accepted
+            fourteen = headers-split ∙ rw (fronted .rules, set-rules)
 
-        module _ (good : v ≡ Accepted) where
-          apart : places ≡ accepted
-          apart = told-accepted v places good by-places
+            are : sets ≡ setsOf (directory b)
+            unfolding setRules
+            are =
+                held-are
+                ∙ numbers-read b (front .«headers_end») (front .entries) (fronted .headers) n (text b n front fronted reading (sets .offsets) (sets .sizes) sets-read) reading of-directory
+                (orElse-accepts (numberRules b n) (placeRules (directory b) (headersEnd b) n) .0 set-rules .0)
 
-          fourteen : headerRules b n ≡ accepted
-          unfolding headerRules
-          fourteen = rw (six, rules-split b n, text, numbers, apart)
+            pub numbers-laid : (whole ≡ true → n ≡ length b) → (s : Sets) → s ≡ sets → whole ≡ true → Laid s (length b)
+            numbers-laid long s q w = rw (← long w) (laid b n s fourteen (q ∙ are))
 
-          are : sets ≡ setsOf (directory b)
-          are = numbers-read b n end k all reading counted text numbers sets held
+            module _ (s : Sets) (q : s ≡ sets) (u : Verdict) (every : Every s (λ ds. verdictIs u ≡ statesAsked whole b ds)) where
+              by-states : verdictIs u ≡ states
+              by-states = every (directory b) n (q ∙ are) (fitting b n (headed b n fourteen))
 
-          pub numbers-laid : (whole ≡ true → n ≡ length b) → (s : Sets) → s ≡ sets → whole ≡ true → Laid s (length b)
-          numbers-laid long s q w = rw (← long w) (laid b n s fourteen (q ∙ are))
+              pub states-refused : (r : Refusal) (x : Opening) → x ≡ closed r → u ≡ Refused r → Opened (rulesAsked whole b n) b x
+              states-refused r x c h = stops r x c (in-order ∙ rw (fronted .rules, set-rules, told-refused u r states h by-states))
 
-          module _ (s : Sets) (q : s ≡ sets) (u : Verdict) (every : Every s (λ ds. verdictIs u ≡ statesAsked whole b ds)) where
-            by-states : verdictIs u ≡ states
-            by-states = every (directory b) n (q ∙ are) (fitting b n (headed b n fourteen))
-
-            pub states-refused : (r : Refusal) (x : Opening) → x ≡ closed r → u ≡ Refused r → Opened (rulesAsked whole b n) b x
-            states-refused r x c h = stops r x c (in-order ∙ rw (six, text, numbers, apart, told-refused u r states h by-states))
-
-            pub all-passed : u ≡ Accepted → (dsds : ℕ) → dsds ≡ end - 280 * k → (answer : Sets) → answer ≡ sets
-                → Opened (rulesAsked whole b n) b (record { verdict = Accepted; dsds = dsds; sets = answer })
-            unfolding verdictIs
-            all-passed h dsds d answer c = record {
-              judged = sym (in-order ∙ rw (six, text, numbers, apart, told-accepted u states h by-states));
-              begin = λ e. d ∙ dsds-of all .begin;
-              held = λ e. c ∙ are;
-            }
+              pub all-passed : u ≡ Accepted → (answer : Sets) → answer ≡ sets
+                  → Opened (rulesAsked whole b n) b (record { verdict = Accepted; dsds = front .«headers_end» - 280 * front .entries; sets = answer })
+              unfolding verdictIs
+              all-passed h answer c = record {
+                judged = sym (in-order ∙ rw (fronted .rules, set-rules, told-accepted u states h by-states));
+                begin = λ e. dsds-of (fronted .headers) .begin;
+                held = λ e. c ∙ are;
+              }
 
 -- ---- what is asked
 

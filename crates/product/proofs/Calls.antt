@@ -1,13 +1,14 @@
 -- What an opened product gives to the calls: its refusal, or what each call goes by; and the parts that it hands out.
 -- Assumes nothing.
 use Prim.Native.Nat.{ℕ, _+_, _*_, _-_, _≤_, _<_}
+use mathlib.Core.Bool.{true}
 use mathlib.Core.List.{List, []}
-use mathlib.Core.Path.{_≡_, refl, sym, ap, _∙_}
+use mathlib.Core.Path.{_≡_, refl, sym, ap, _∙_, subst}
 use native.Mathlib.Omega.{arith}
 use lib.Dec.{ltb→lt}
 use lib.ListN.{length}
 use Rattle.layout.specs.Bytes.{part}
-use Rattle.layout.specs.Answer.{accepted, refused, Reply, refusal, is, _else_, _before_}
+use Rattle.layout.specs.Answer.{Answer, accepted, refused, Reply, refusal, is, _else_, _before_}
 use Rattle.layout.specs.Entries.{headersEnd, entries, dsdsAt, entriesFrom, directory, at}
 use Rattle.layout.specs.States.{statesOf}
 use Rattle.layout.specs.Rules.{verdict}
@@ -26,10 +27,15 @@ use Rattle.directory.specs.Numbers.{directoryWith}
 use Rattle.directory.specs.Opening.{Opened}
 use Rattle.directory.specs.declared.Opening.{Opening}
 use Rattle.directory.proofs.Held.{with-numbers}
+use Rattle.opening.specs.Asked.{rulesAsked}
+use Rattle.opening.proofs.Opened.{all-asked}
 use Rattle.records.specs.Open.{Open}
 use Rattle.records.proofs.Laws.{entries-few, entries-held}
 
-module _ (b : List ℕ) (o : Opening) (opened : Opened (verdict b) b o) where
+module _ (b : List ℕ) (o : Opening) (answered : Opened (rulesAsked true b (length b)) b o) where
+  opened : Opened (verdict b) b o
+  opened = subst (λ (a : Answer). Opened a b o) (all-asked b) answered
+
   pub is-refused : (r : Refusal) → o .verdict ≡ Refused r → verdict b ≡ refused (r .number) (r .place) (r .entry)
   is-refused r h = told-refused (o .verdict) r (verdict b) h (opened .judged)
 

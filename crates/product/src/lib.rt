@@ -21,7 +21,7 @@ use values::MainHeader;
 pub fn judge(p: &[u8]) -> Verdict
     ensures { λ r. ⌜ verdictIs r ≡ verdict (now (p .entry)) ⌝ }
 {
-    let opened = opening::open_product(p);
+    let opened = opening::open_product(p, p.len() as u64, true);
     opened.verdict
 }
 
@@ -30,7 +30,7 @@ pub fn open_directory(p: &[u8]) -> DirectoryAnswer
     ensures judged { λ r. ⌜ verdictIs (r .verdict) ≡ verdict (now (p .entry)) ⌝ }
     ensures listed { λ r. ⌜ r .directory ≡ directoryFor (verdict (now (p .entry))) (now (p .entry)) ⌝ }
 {
-    let opened = opening::open_product(p);
+    let opened = opening::open_product(p, p.len() as u64, true);
     let verdict = opened.verdict;
     if let Verdict::Refused(refusal) = verdict {
         return DirectoryAnswer {
@@ -50,7 +50,7 @@ pub fn header_values(p: &[u8]) -> HeaderAnswer
     ensures judged { λ r. ⌜ verdictIs (r .verdict) ≡ verdict (now (p .entry)) ⌝ }
     ensures valued { λ r. ⌜ r .header ≡ headerFor (verdict (now (p .entry))) (now (p .entry)) ⌝ }
 {
-    let opened = opening::open_product(p);
+    let opened = opening::open_product(p, p.len() as u64, true);
     let verdict = opened.verdict;
     if let Verdict::Refused(refusal) = verdict {
         return HeaderAnswer {
@@ -68,7 +68,7 @@ pub fn header_values(p: &[u8]) -> HeaderAnswer
 pub fn sph_place(p: &[u8]) -> Place
     ensures { λ r. ⌜ placeIs r ≡ sphPlace (now (p .entry)) ⌝ }
 {
-    let opened = opening::open_product(p);
+    let opened = opening::open_product(p, p.len() as u64, true);
     let verdict = opened.verdict;
     if let Verdict::Refused(refusal) = verdict {
         return Place::Refused(refusal);
@@ -104,7 +104,7 @@ pub fn sph_part(p: &[u8]) -> &[u8]
 pub fn record_place(p: &[u8], entry: usize, asked: usize) -> Place
     ensures { λ r. ⌜ placeIs r ≡ recordPlace (now (p .entry)) entry asked ⌝ }
 {
-    let opened = opening::open_product(p);
+    let opened = opening::open_product(p, p.len() as u64, true);
     let verdict = opened.verdict;
     if let Verdict::Refused(refusal) = verdict {
         return Place::Refused(refusal);

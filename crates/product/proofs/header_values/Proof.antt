@@ -1,6 +1,7 @@
 -- `product::header_values` meets its contract.
 -- Assumes nothing.
-use mathlib.Core.Path.{sym, ap, _∙_}
+use native.Mathlib.Omega.{arith}
+use mathlib.Core.Path.{refl, sym, ap, _∙_}
 use Rattle.layout.specs.Answers.{verdictIs}
 use Rattle.values.specs.Header.{headerFor}
 use Rattle.layout.proofs.Sound.{sound}
@@ -10,7 +11,7 @@ use Rattle.product.proofs.header_values.Statement.{statement}
 use Rattle.product.proofs.header_values.Tie as tie
 
 open-product-requires : tie.Need-open-product-requires
-open-product-requires c κs = search needs
+open-product-requires c κs = (omega arith, λ h. refl)
 
 enum-known-verdict : tie.Need-enum-known-verdict
 enum-known-verdict c = search needs

@@ -1,6 +1,7 @@
 -- `product::open_directory` meets its contract.
 -- Assumes nothing.
-use mathlib.Core.Path.{sym, ap, _∙_}
+use native.Mathlib.Omega.{arith}
+use mathlib.Core.Path.{refl, sym, ap, _∙_}
 use Rattle.layout.specs.Answers.{verdictIs, directoryFor}
 use Rattle.product.proofs.Calls.{is-refused, is-accepted, now-dsds, now-few, now-directory}
 use borrow.Author.Needs.{needs}
@@ -8,7 +9,7 @@ use Rattle.product.proofs.open_directory.Statement.{statement}
 use Rattle.product.proofs.open_directory.Tie as tie
 
 open-product-requires : tie.Need-open-product-requires
-open-product-requires c κs = search needs
+open-product-requires c κs = (omega arith, λ h. refl)
 
 enum-known-verdict : tie.Need-enum-known-verdict
 enum-known-verdict c = search needs

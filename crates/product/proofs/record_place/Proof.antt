@@ -1,6 +1,7 @@
 -- `product::record_place` meets its contract.
 -- Assumes nothing.
-use mathlib.Core.Path.{sym}
+use native.Mathlib.Omega.{arith}
+use mathlib.Core.Path.{refl, sym}
 use Rattle.layout.specs.Answers.{placeIs}
 use Rattle.layout.specs.Records.{recordRefusal, recordPlace}
 use Rattle.product.proofs.Calls.{is-refused, is-accepted, now-open}
@@ -9,7 +10,7 @@ use Rattle.product.proofs.record_place.Statement.{statement}
 use Rattle.product.proofs.record_place.Tie as tie
 
 open-product-requires : tie.Need-open-product-requires
-open-product-requires c κs = search needs
+open-product-requires c κs = (omega arith, λ h. refl)
 
 enum-known-verdict : tie.Need-enum-known-verdict
 enum-known-verdict c = search needs

@@ -1,7 +1,7 @@
 -- `product::sph_place` meets its contract.
 -- Assumes nothing.
 use Prim.Native.Nat.{ℕ}
-use mathlib.Core.Path.{sym, ap, _∙_}
+use mathlib.Core.Path.{refl, sym, ap, _∙_}
 use native.Mathlib.Omega.{arith}
 use Rattle.layout.specs.Answer.{is}
 use Rattle.layout.specs.Answers.{placeIs}
@@ -12,7 +12,7 @@ use Rattle.product.proofs.sph_place.Statement.{statement}
 use Rattle.product.proofs.sph_place.Tie as tie
 
 open-product-requires : tie.Need-open-product-requires
-open-product-requires c κs = search needs
+open-product-requires c κs = (omega arith, λ h. refl)
 
 enum-known-verdict : tie.Need-enum-known-verdict
 enum-known-verdict c = search needs
