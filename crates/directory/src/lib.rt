@@ -1,7 +1,6 @@
 // The directory of a product (document 01, rules 7 to 14): the numbers of its entries, what is asked of them, and what is answered of all.
 use dsd::Entry;
 use layout::Directory;
-use layout::Refusal;
 use layout::Verdict;
 use values::MainHeader;
 use writing::put_text;
@@ -19,7 +18,6 @@ ghost use Rattle.layout.specs.Search.{first};
 ghost use Rattle.directory.specs.Numbers.{together, noSets, heldSets, directoryWith};
 ghost use Rattle.directory.specs.Texts.{textsFrom, Room};
 ghost use Rattle.directory.specs.Checks.{Headers, Dsds, Counted, ReadFrom, textRules, numberRules, Placed};
-ghost use Rattle.directory.specs.Opening.{closed, Opened};
 
 // The numbers and roles of up to 128 entries held together, unused places zero.
 pub struct Sets {
@@ -67,25 +65,6 @@ impl Sets {
             counts: [0; 128],
             record_sizes: [0; 128],
             roles: [0; 128],
-        }
-    }
-}
-
-// A product, opened as far as rules were asked: the verdict and, where it accepts, where the DSDs begin and the numbers of the directory.
-pub struct Opening {
-    pub verdict: Verdict,
-    pub dsds: usize,
-    pub sets: Sets,
-}
-
-impl Opening {
-    pub fn refuse(refusal: Refusal) -> Opening
-        ensures { λ r. ⌜ r ≡ closed refusal ⌝ }
-    {
-        Opening {
-            verdict: Verdict::Refused(refusal),
-            dsds: 0,
-            sets: Sets::none(),
         }
     }
 }

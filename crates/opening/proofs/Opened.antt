@@ -1,7 +1,6 @@
--- The rules asked, in the order in which the code checks them, and what opening answers at each.
+-- The rules in the order in which the code checks them, and what opening answers at each.
 -- Assumes nothing.
 use Prim.Native.Nat.{ℕ, _*_, _-_, _≤_, min}
-use mathlib.Core.Bool.{Bool, true, false}
 use mathlib.Core.List.{List}
 use mathlib.Core.Path.{_≡_, refl, sym, ap, _∙_, subst}
 use native.Mathlib.Omega.{arith}
@@ -9,25 +8,25 @@ use lib.ListN.{length}
 use Rattle.layout.specs.Answer.{Answer, accepted, refused, _orElse_}
 use Rattle.layout.specs.Answers.{verdictIs}
 use Rattle.layout.specs.Entries.{Entry, headersEnd, entriesFrom, directory}
-use Rattle.layout.specs.Rules.{rules1to6, headerRules, verdictFrom, verdict}
+use Rattle.layout.specs.States.{statesOf, tallyOf}
+use Rattle.layout.specs.Rules.{rules1to6, headerRules, stateRules, verdictFrom, verdict}
 use Rattle.layout.specs.declared.Refusal.{Refusal}
 use Rattle.layout.specs.declared.Verdict.{Verdict}
 use Rattle.layout.specs.declared.Verdict.the-variants.{Accepted, Refused}
-use Rattle.layout.proofs.Laws.{accepted≢refused, orElse-accepts, orElse-assoc, orElse-accepted}
+use Rattle.layout.proofs.Laws.{accepted≢refused, orElse-accepts, orElse-assoc}
 use Rattle.layout.proofs.Replies.{told-refused, told-accepted}
 use Rattle.layout.proofs.Sound.{headed}
 use Rattle.header.specs.Checks.{HeaderChecked}
 use Rattle.header.specs.declared.HeaderCheck.{HeaderCheck}
 use Rattle.directory.specs.Numbers.{setsOf, heldSets}
 use Rattle.directory.specs.Checks.{Headers, Counted, textRules, numberRules, placeRules, Placed}
-use Rattle.directory.specs.Opening.{closed, Opened}
-use Rattle.directory.specs.declared.Opening.{Opening}
 use Rattle.directory.specs.declared.Reading.{Reading}
 use Rattle.directory.specs.declared.Sets.{Sets}
 use Rattle.directory.proofs.Rules.{dsds-of, rules-split, the-directory, numbers-read, places-are}
 use Rattle.states.specs.Laid.{Laid, Every}
 use Rattle.states.proofs.Fits.{fitting, laid}
-use Rattle.opening.specs.Asked.{longestHeaders, frontRules, setRules, statesAsked, rulesAsked, Fronted, FrontChecked, SetsRead}
+use Rattle.opening.specs.Opening.{longestHeaders, frontRules, setRules, Fronted, FrontChecked, SetsRead, closed, Opened}
+use Rattle.opening.specs.declared.Opening.{Opening}
 
 -- ---- rules 1 to 8
 
@@ -81,34 +80,26 @@ module _ (b : List ℕ) (n : ℕ) (front : HeaderCheck) (fronted : Fronted b n f
       places-are b (front .«headers_end») (front .entries) (fronted .headers) n text reading (read .counted) numbers offsets sizes (read .starts) (read .extents) v placed
       ∙ sym (rw numbers)
 
--- ---- all that is asked
+-- ---- rules 1 to 14
 
-module _ (whole : Bool) (b : List ℕ) (n : ℕ) where
-  abbrev states : Answer
-  states = statesAsked whole b (directory b)
-
+module _ (b : List ℕ) (n : ℕ) where
   headers-split : headerRules b n ≡ (frontRules b n orElse setRules b n)
   unfolding headerRules frontRules setRules
   headers-split = rw (rules-split b n) (sym (simp orElse-assoc))
 
-  in-order : rulesAsked whole b n ≡ (frontRules b n orElse (setRules b n orElse states))
-  unfolding rulesAsked
-  in-order = rw headers-split (orElse-assoc (frontRules b n) (setRules b n) states)
-
-  -- a refusal of the rules asked
-  stops : (r : Refusal) (x : Opening) → x ≡ closed r → rulesAsked whole b n ≡ refused (r .number) (r .place) (r .entry) → Opened (rulesAsked whole b n) b x
+  stops : (r : Refusal) (x : Opening) → x ≡ closed r → headerRules b n ≡ refused (r .number) (r .place) (r .entry) → Opened b n x
   unfolding verdictIs
   stops r x q h = rw q (record { judged = sym h; begin = λ e. absurd (accepted≢refused (sym e ∙ h)); held = λ e. absurd (accepted≢refused (sym e ∙ h)) })
 
   module _ (front : HeaderCheck) (checked : FrontChecked b n front) where
-    pub front-refused : (r : Refusal) (x : Opening) → x ≡ closed r → front .verdict ≡ Refused r → Opened (rulesAsked whole b n) b x
-    front-refused r x q h = stops r x q (in-order ∙ rw (told-refused (front .verdict) r (frontRules b n) h (checked .judged)))
+    pub front-refused : (r : Refusal) (x : Opening) → x ≡ closed r → front .verdict ≡ Refused r → Opened b n x
+    front-refused r x q h = stops r x q (headers-split ∙ rw (told-refused (front .verdict) r (frontRules b n) h (checked .judged)))
 
     module _ (good : front .verdict ≡ Accepted) where
       pub fronted : Fronted b n front
       fronted = checked .good (told-accepted (front .verdict) (frontRules b n) good (checked .judged))
 
-      pub entries-are : entriesFrom b (front .«headers_end» - 280 * front .entries) (front .entries) ≡ directory b
+      entries-are : entriesFrom b (front .«headers_end» - 280 * front .entries) (front .entries) ≡ directory b
       entries-are = the-directory b (front .«headers_end») (front .entries) (fronted .headers)
 
       -- what a reading of the numbers holds
@@ -124,15 +115,12 @@ module _ (whole : Bool) (b : List ℕ) (n : ℕ) where
         sets-read = record { counted = of-directory; starts = ap (λ (s : Sets). s .offsets) held-are; extents = ap (λ (s : Sets). s .sizes) held-are }
 
         module _ (v : Verdict) (by-sets : verdictIs v ≡ setRules b n) where
-          pub sets-refused : (r : Refusal) (x : Opening) → x ≡ closed r → v ≡ Refused r → Opened (rulesAsked whole b n) b x
-          sets-refused r x q h = stops r x q (in-order ∙ rw (fronted .rules, told-refused v r (setRules b n) h by-sets))
+          pub sets-refused : (r : Refusal) (x : Opening) → x ≡ closed r → v ≡ Refused r → Opened b n x
+          sets-refused r x q h = stops r x q (headers-split ∙ rw (fronted .rules, told-refused v r (setRules b n) h by-sets))
 
           module _ (fine : v ≡ Accepted) where
             set-rules : setRules b n ≡ accepted
             set-rules = told-accepted v (setRules b n) fine by-sets
-
-            fourteen : headerRules b n ≡ accepted
-            fourteen = headers-split ∙ rw (fronted .rules, set-rules)
 
             are : sets ≡ setsOf (directory b)
             unfolding setRules
@@ -141,31 +129,28 @@ module _ (whole : Bool) (b : List ℕ) (n : ℕ) where
                 ∙ numbers-read b (front .«headers_end») (front .entries) (fronted .headers) n (text b n front fronted reading (sets .offsets) (sets .sizes) sets-read) reading of-directory
                 (orElse-accepts (numberRules b n) (placeRules (directory b) (headersEnd b) n) .0 set-rules .0)
 
-            pub numbers-laid : (whole ≡ true → n ≡ length b) → (s : Sets) → s ≡ sets → whole ≡ true → Laid s (length b)
-            numbers-laid long s q w = rw (← long w) (laid b n s fourteen (q ∙ are))
+            pub all-passed : (answer : Sets) → answer ≡ sets → Opened b n (record { verdict = Accepted; dsds = front .«headers_end» - 280 * front .entries; sets = answer })
+            unfolding verdictIs
+            all-passed answer c = record {
+              judged = sym (headers-split ∙ rw (fronted .rules, set-rules));
+              begin = λ e. dsds-of (fronted .headers) .begin;
+              held = λ e. c ∙ are;
+            }
 
-            module _ (s : Sets) (q : s ≡ sets) (u : Verdict) (every : Every s (λ ds. verdictIs u ≡ statesAsked whole b ds)) where
-              by-states : verdictIs u ≡ states
-              by-states = every (directory b) n (q ∙ are) (fitting b n (headed b n fourteen))
+-- ---- and rules 15 and 16
 
-              pub states-refused : (r : Refusal) (x : Opening) → x ≡ closed r → u ≡ Refused r → Opened (rulesAsked whole b n) b x
-              states-refused r x c h = stops r x c (in-order ∙ rw (fronted .rules, set-rules, told-refused u r states h by-states))
+module _ (b : List ℕ) (x : Opening) (o : Opened b (length b) x) where
+  pub headers-refused : (r : Refusal) → x .verdict ≡ Refused r → verdictIs (x .verdict) ≡ verdict b
+  unfolding verdict verdictFrom
+  headers-refused r h = o .judged ∙ rw (told-refused (x .verdict) r (headerRules b (length b)) h (o .judged))
 
-              pub all-passed : u ≡ Accepted → (answer : Sets) → answer ≡ sets
-                  → Opened (rulesAsked whole b n) b (record { verdict = Accepted; dsds = front .«headers_end» - 280 * front .entries; sets = answer })
-              unfolding verdictIs
-              all-passed h answer c = record {
-                judged = sym (in-order ∙ rw (fronted .rules, set-rules, told-accepted u states h by-states));
-                begin = λ e. dsds-of (fronted .headers) .begin;
-                held = λ e. c ∙ are;
-              }
+  module _ (good : x .verdict ≡ Accepted) where
+    fourteen : headerRules b (length b) ≡ accepted
+    fourteen = told-accepted (x .verdict) (headerRules b (length b)) good (o .judged)
 
--- ---- what is asked
+    pub numbers-laid : Laid (x .sets) (length b)
+    numbers-laid = laid b (length b) (x .sets) fourteen (o .held fourteen)
 
-pub headers-asked : (b : List ℕ) (n : ℕ) → rulesAsked false b n ≡ headerRules b n
-unfolding rulesAsked statesAsked
-headers-asked b n = orElse-accepted (headerRules b n)
-
-pub all-asked : (b : List ℕ) → rulesAsked true b (length b) ≡ verdict b
-unfolding rulesAsked statesAsked verdict verdictFrom
-all-asked b = refl
+    pub by-states : (v : Verdict) → Every (x .sets) (λ ds. verdictIs v ≡ stateRules ds (tallyOf (statesOf b ds))) → verdictIs v ≡ verdict b
+    unfolding verdict verdictFrom
+    by-states v every = every (directory b) (length b) (o .held fourteen) (fitting b (length b) (headed b (length b) fourteen)) ∙ rw fourteen

@@ -1,29 +1,35 @@
-// The rules in their order: those of the headers over the bytes at hand and a length, and those of the states.
-use directory::Opening;
+// The rules in their order: those of the headers over the bytes at hand and a length, and with those of the states all sixteen.
 use directory::Reading;
 use directory::Sets;
 use dsd::Entry;
 use header::HeaderCheck;
+use layout::Refusal;
 use layout::Verdict;
-ghost use mathlib.Core.Bool.{true};
 ghost use mathlib.Core.Path.{_≡_};
 ghost use Prim.Native.Nat.{_≤_, min};
 ghost use lib.ListN.{length};
 ghost use Rattle.layout.specs.Answers.{verdictIs};
 ghost use Rattle.layout.specs.Entries.{directory};
-ghost use Rattle.directory.specs.Opening.{Opened};
-ghost use Rattle.states.specs.Laid.{Laid, Every};
-ghost use Rattle.opening.specs.Asked.{longestHeaders, setRules, statesAsked, rulesAsked, Fronted, FrontChecked, SetsRead};
+ghost use Rattle.layout.specs.Rules.{verdict};
+ghost use Rattle.opening.specs.Opening.{longestHeaders, setRules, Fronted, FrontChecked, SetsRead, closed, Opened};
 
-// Rules 15 and 16 where the product is lent whole; else they are not asked.
-fn check_states(p: &[u8], whole: bool, sets: Sets) -> Verdict
-    requires { ⌜ (whole ≡ true → Laid sets (length (now p))) ⌝ }
-    ensures { λ r. ⌜ Every sets (λ ds. verdictIs r ≡ statesAsked whole (now (p .entry)) ds) ⌝ }
-{
-    if whole {
-        return states::judge_states(p, sets);
+// A product of which rules 1 to 14 were asked: the verdict and, where it accepts, where the DSDs begin and the numbers of the directory.
+pub struct Opening {
+    pub verdict: Verdict,
+    pub dsds: usize,
+    pub sets: Sets,
+}
+
+impl Opening {
+    fn refuse(refusal: Refusal) -> Opening
+        ensures { λ r. ⌜ r ≡ closed refusal ⌝ }
+    {
+        Opening {
+            verdict: Verdict::Refused(refusal),
+            dsds: 0,
+            sets: Sets::none(),
+        }
     }
-    Verdict::Accepted
 }
 
 // Rules 1 to 8, which look at text and at the sizes of the headers.
@@ -68,11 +74,11 @@ fn check_sets<'a>(
     directory::check_places(offsets, sizes, entries, headers_end as u64, length)
 }
 
-// Rules 1 to 14 of a product of `length` bytes, of which all are at hand or at least those of the longest headers; and rules 15 and 16 where it is lent
-// whole. The numbers are read once, into arrays made here, and the answer is the one copy of them: a function around this one would make another.
-pub fn open_product(p: &[u8], length: u64, whole: bool) -> Opening
-    requires { ⌜ (min length longestHeaders ≤ lib.ListN.length (now p)) × (whole ≡ true → length ≡ lib.ListN.length (now p)) ⌝ }
-    ensures { λ r. ⌜ Opened (rulesAsked whole (now (p .entry)) length) (now (p .entry)) r ⌝ }
+// Rules 1 to 14 of a product of `length` bytes, of which all are at hand, or at least those of the longest headers. The numbers are read once, into arrays
+// made here, and the answer is the one copy of them.
+pub fn open_headers(p: &[u8], length: u64) -> Opening
+    requires { ⌜ min length longestHeaders ≤ lib.ListN.length (now p) ⌝ }
+    ensures { λ r. ⌜ Opened (now (p .entry)) length r ⌝ }
 {
     let front = check_front(p, length);
     let first = front.verdict;
@@ -102,14 +108,22 @@ pub fn open_product(p: &[u8], length: u64, whole: bool) -> Opening
     if let Verdict::Refused(refusal) = checked {
         return Opening::refuse(refusal);
     }
-    let sets = Sets::of(entries, types, offsets, sizes, counts, record_sizes, roles);
-    let states = check_states(p, whole, sets);
-    if let Verdict::Refused(refusal) = states {
-        return Opening::refuse(refusal);
-    }
     Opening {
         verdict: Verdict::Accepted,
         dsds,
         sets: Sets::of(entries, types, offsets, sizes, counts, record_sizes, roles),
     }
+}
+
+// All sixteen rules, of a product lent whole and opened.
+pub fn judge_opened(p: &[u8], opened: Opening) -> Verdict
+    requires { ⌜ Opened (now p) (length (now p)) opened ⌝ }
+    ensures { λ r. ⌜ verdictIs r ≡ verdict (now (p .entry)) ⌝ }
+{
+    let headers = opened.verdict;
+    if let Verdict::Refused(_) = headers {
+        return headers;
+    }
+    let sets = opened.sets;
+    states::judge_states(p, sets)
 }

@@ -1,17 +1,16 @@
 -- What an opened product gives to the calls: its refusal, or what each call goes by; and the parts that it hands out.
 -- Assumes nothing.
 use Prim.Native.Nat.{ℕ, _+_, _*_, _-_, _≤_, _<_}
-use mathlib.Core.Bool.{true}
 use mathlib.Core.List.{List, []}
-use mathlib.Core.Path.{_≡_, refl, sym, ap, _∙_, subst}
+use mathlib.Core.Path.{_≡_, refl, sym, ap, _∙_}
 use native.Mathlib.Omega.{arith}
 use lib.Dec.{ltb→lt}
 use lib.ListN.{length}
 use Rattle.layout.specs.Bytes.{part}
-use Rattle.layout.specs.Answer.{Answer, accepted, refused, Reply, refusal, is, _else_, _before_}
+use Rattle.layout.specs.Answer.{accepted, refused, Reply, refusal, is, _else_, _before_}
 use Rattle.layout.specs.Entries.{headersEnd, entries, dsdsAt, entriesFrom, directory, at}
 use Rattle.layout.specs.States.{statesOf}
-use Rattle.layout.specs.Rules.{verdict}
+use Rattle.layout.specs.Rules.{headerRules, verdict}
 use Rattle.layout.specs.Records.{Span, lengths, recordAt, recordLength, recordPart, recordRefusal, recordPlace, sphPlace, partOf}
 use Rattle.layout.specs.Fields.{recordOf}
 use Rattle.layout.specs.Answers.{placeIs, directoryOf}
@@ -20,31 +19,23 @@ use Rattle.layout.specs.declared.Verdict.the-variants.{Accepted, Refused}
 use Rattle.layout.specs.declared.Place.{Place}
 use Rattle.layout.specs.declared.Place.the-variants as places
 use Rattle.layout.proofs.Laws.{orElse-accepts, need-accepts}
-use Rattle.layout.proofs.Replies.{told-refused, told-accepted, else-is, else-refusal}
-use Rattle.layout.proofs.Sound.{sound, directory-from, length-directory}
+use Rattle.layout.proofs.Replies.{else-is, else-refusal}
+use Rattle.layout.proofs.Sound.{both-accept, sound, directory-from, length-directory}
 use Rattle.layout.proofs.Whole.{record-inside}
 use Rattle.directory.specs.Numbers.{directoryWith}
-use Rattle.directory.specs.Opening.{Opened}
-use Rattle.directory.specs.declared.Opening.{Opening}
 use Rattle.directory.proofs.Held.{with-numbers}
-use Rattle.opening.specs.Asked.{rulesAsked}
-use Rattle.opening.proofs.Opened.{all-asked}
+use Rattle.opening.specs.Opening.{Opened}
+use Rattle.opening.specs.declared.Opening.{Opening}
 use Rattle.records.specs.Open.{Open}
 use Rattle.records.proofs.Laws.{entries-few, entries-held}
 
-module _ (b : List ℕ) (o : Opening) (answered : Opened (rulesAsked true b (length b)) b o) where
-  opened : Opened (verdict b) b o
-  opened = subst (λ (a : Answer). Opened a b o) (all-asked b) answered
-
-  pub is-refused : (r : Refusal) → o .verdict ≡ Refused r → verdict b ≡ refused (r .number) (r .place) (r .entry)
-  is-refused r h = told-refused (o .verdict) r (verdict b) h (opened .judged)
-
-  pub is-accepted : o .verdict ≡ Accepted → verdict b ≡ accepted
-  is-accepted h = told-accepted (o .verdict) (verdict b) h (opened .judged)
-
+module _ (b : List ℕ) (o : Opening) (opened : Opened b (length b) o) where
   module _ (a : verdict b ≡ accepted) where
+    fourteen : headerRules b (length b) ≡ accepted
+    fourteen = both-accept b a .0
+
     pub now-open : Open b (o .sets)
-    now-open = record { accepts = a; held = opened .held a }
+    now-open = record { accepts = a; held = opened .held fourteen }
 
     all-entries : o .sets .entries ≡ entries b
     all-entries = entries-held b (o .sets) now-open ∙ length-directory b
@@ -54,18 +45,18 @@ module _ (b : List ℕ) (o : Opening) (answered : Opened (rulesAsked true b (len
     unfolding dsdsAt headersEnd
     now-dsds =
         let m = sound b a .headed in
-        (omega (arith, opened .begin a, m .dsds), omega (arith, opened .begin a, all-entries, m .dsds, m .headers))
+        (omega (arith, opened .begin fourteen, m .dsds), omega (arith, opened .begin fourteen, all-entries, m .dsds, m .headers))
 
     pub now-few : o .sets .entries ≤ 128
     now-few = entries-few b (o .sets) now-open
 
     pub lines-are : o .dsds - 1247 ≡ dsdsAt b - 1247
-    lines-are = rw (opened .begin a)
+    lines-are = rw (opened .begin fourteen)
 
     pub now-directory : directoryWith (o .sets) (entriesFrom b (o .dsds) (o .sets .entries)) ≡ directoryOf (directory b)
     now-directory =
-        ap (directoryWith (o .sets)) (directory-from b (o .dsds) (o .sets .entries) (opened .begin a) all-entries)
-        ∙ with-numbers (o .sets) (directory b) (opened .held a)
+        ap (directoryWith (o .sets)) (directory-from b (o .dsds) (o .sets .entries) (opened .begin fourteen) all-entries)
+        ∙ with-numbers (o .sets) (directory b) (opened .held fourteen)
 
 -- ---- places and parts
 

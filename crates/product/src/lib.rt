@@ -21,8 +21,8 @@ use values::MainHeader;
 pub fn judge(p: &[u8]) -> Verdict
     ensures { λ r. ⌜ verdictIs r ≡ verdict (now (p .entry)) ⌝ }
 {
-    let opened = opening::open_product(p, p.len() as u64, true);
-    opened.verdict
+    let opened = opening::open_headers(p, p.len() as u64);
+    opening::judge_opened(p, opened)
 }
 
 // The directory beside the verdict.
@@ -30,8 +30,8 @@ pub fn open_directory(p: &[u8]) -> DirectoryAnswer
     ensures judged { λ r. ⌜ verdictIs (r .verdict) ≡ verdict (now (p .entry)) ⌝ }
     ensures listed { λ r. ⌜ r .directory ≡ directoryFor (verdict (now (p .entry))) (now (p .entry)) ⌝ }
 {
-    let opened = opening::open_product(p, p.len() as u64, true);
-    let verdict = opened.verdict;
+    let opened = opening::open_headers(p, p.len() as u64);
+    let verdict = opening::judge_opened(p, opened);
     if let Verdict::Refused(refusal) = verdict {
         return DirectoryAnswer {
             verdict: Verdict::Refused(refusal),
@@ -50,8 +50,8 @@ pub fn header_values(p: &[u8]) -> HeaderAnswer
     ensures judged { λ r. ⌜ verdictIs (r .verdict) ≡ verdict (now (p .entry)) ⌝ }
     ensures valued { λ r. ⌜ r .header ≡ headerFor (verdict (now (p .entry))) (now (p .entry)) ⌝ }
 {
-    let opened = opening::open_product(p, p.len() as u64, true);
-    let verdict = opened.verdict;
+    let opened = opening::open_headers(p, p.len() as u64);
+    let verdict = opening::judge_opened(p, opened);
     if let Verdict::Refused(refusal) = verdict {
         return HeaderAnswer {
             verdict: Verdict::Refused(refusal),
@@ -68,8 +68,8 @@ pub fn header_values(p: &[u8]) -> HeaderAnswer
 pub fn sph_place(p: &[u8]) -> Place
     ensures { λ r. ⌜ placeIs r ≡ sphPlace (now (p .entry)) ⌝ }
 {
-    let opened = opening::open_product(p, p.len() as u64, true);
-    let verdict = opened.verdict;
+    let opened = opening::open_headers(p, p.len() as u64);
+    let verdict = opening::judge_opened(p, opened);
     if let Verdict::Refused(refusal) = verdict {
         return Place::Refused(refusal);
     }
@@ -104,8 +104,8 @@ pub fn sph_part(p: &[u8]) -> &[u8]
 pub fn record_place(p: &[u8], entry: usize, asked: usize) -> Place
     ensures { λ r. ⌜ placeIs r ≡ recordPlace (now (p .entry)) entry asked ⌝ }
 {
-    let opened = opening::open_product(p, p.len() as u64, true);
-    let verdict = opened.verdict;
+    let opened = opening::open_headers(p, p.len() as u64);
+    let verdict = opening::judge_opened(p, opened);
     if let Verdict::Refused(refusal) = verdict {
         return Place::Refused(refusal);
     }

@@ -1,9 +1,9 @@
--- `directory::Opening::refuse` meets its contract.
+-- `opening::Opening::refuse` meets its contract.
 -- Assumes nothing.
 use borrow.Author.Needs.{needs}
 use Rattle.layout.specs.declared.Verdict.the-variants.{Refused}
-use Rattle.directory.proofs.Opening.refuse.Statement.{statement}
-use Rattle.directory.proofs.Opening.refuse.Tie as tie
+use Rattle.opening.proofs.Opening.refuse.Statement.{statement}
+use Rattle.opening.proofs.Opening.refuse.Tie as tie
 
 none-requires : tie.Need-none-requires
 none-requires c κs = search needs

@@ -1,19 +1,19 @@
--- The rules that opening asks, in three steps, and what each step answers: those of text, those of the sets, and those of the states where the product is
--- lent whole.
+-- Rules 1 to 14 in the two steps that opening takes, those of text and those of the sets, and what it answers.
 -- Assumes nothing.
 use Prim.Native.Nat.{ℕ}
-use mathlib.Core.Bool.{Bool, cond}
 use mathlib.Core.List.{List}
 use mathlib.Core.Path.{_≡_}
 use Rattle.layout.specs.Answer.{Answer, accepted, _orElse_}
 use Rattle.layout.specs.Answers.{verdictIs}
-use Rattle.layout.specs.Entries.{Entry, headersEnd, directory}
-use Rattle.layout.specs.States.{statesOf, tallyOf}
-use Rattle.layout.specs.Rules.{rules1to6, headerRules, stateRules}
+use Rattle.layout.specs.Entries.{Entry, headersEnd, dsdsAt, directory}
+use Rattle.layout.specs.Rules.{rules1to6, headerRules}
+use Rattle.layout.specs.declared.Refusal.{Refusal}
+use Rattle.layout.specs.declared.Verdict.the-variants as verdict-cases
 use Rattle.header.specs.declared.HeaderCheck.{HeaderCheck}
-use Rattle.directory.specs.Numbers.{heldSets}
+use Rattle.directory.specs.Numbers.{setsOf, noSets, heldSets}
 use Rattle.directory.specs.Checks.{Headers, Counted, textRules, numberRules, placeRules}
 use Rattle.directory.specs.declared.Reading.{Reading}
+use Rattle.opening.specs.declared.Opening.{Opening}
 
 -- the main header, and the longest SPH that rule 6 allows
 abbrev pub longestHeaders : ℕ
@@ -28,13 +28,6 @@ frontRules b n = let text = textRules b n in rules1to6 b n orElse text
 -- rules 9 to 14
 unfoldable pub setRules : List ℕ → ℕ → Answer
 setRules b n = let places = placeRules (directory b) (headersEnd b) n in numberRules b n orElse places
-
--- rules 15 and 16 where they are asked, of a product of these entries
-unfoldable pub statesAsked : Bool → List ℕ → List Entry → Answer
-statesAsked whole b ds = let states = stateRules ds (tallyOf (statesOf b ds)) in cond whole states accepted
-
-unfoldable pub rulesAsked : Bool → List ℕ → ℕ → Answer
-rulesAsked whole b n = let states = statesAsked whole b (directory b) in headerRules b n orElse states
 
 -- ---- what they answer
 
@@ -52,3 +45,13 @@ pub record SetsRead (ds : List Entry) (r : Reading) (offsets sizes : List ℕ) :
   pub counted : Counted ds r
   pub starts : offsets ≡ heldSets ds .offsets
   pub extents : sizes ≡ heldSets ds .sizes
+
+-- a refusal, and nothing beside it
+abbrev pub closed : Refusal → Opening
+closed r = record { verdict = verdict-cases.Refused r; dsds = 0; sets = noSets }
+
+-- the answer of rules 1 to 14; where it accepts, where the DSDs begin and the numbers of the directory
+pub record Opened (b : List ℕ) (n : ℕ) (r : Opening) : Type 0 where
+  pub judged : verdictIs (r .verdict) ≡ headerRules b n
+  pub begin : headerRules b n ≡ accepted → r .dsds ≡ dsdsAt b
+  pub held : headerRules b n ≡ accepted → r .sets ≡ setsOf (directory b)
