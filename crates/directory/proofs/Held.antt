@@ -1,6 +1,6 @@
 -- What a reading of DSDs holds of their entries: the arrays, turn by turn, and that they are the numbers of a directory that rule 9 accepts.
 -- Assumes nothing.
-use Prim.Native.Nat.{ℕ, zero, suc, _+_, _*_, _<_}
+use Prim.Native.Nat.{ℕ, suc, _+_, _*_, _<_}
 use mathlib.Core.Bool.{Bool, true, false, not}
 use mathlib.Core.List.{List, [], _∷_, map, map-map}
 use mathlib.Core.Path.{_≡_, refl, sym, ap, _∙_}
@@ -9,10 +9,9 @@ use lib.Dec.{eqb}
 use lib.IntN.{ℤ, pos}
 use lib.ListN.{length}
 use borrow.Author.Tests.{eqb-true}
-use Rattle.layout.specs.Bytes.{part}
 use Rattle.layout.specs.Search.{find, upto, join}
-use Rattle.layout.specs.Entries.{Entry, entryOf, entryFrom, entriesFrom, at, start, extent, isData, numbersFit}
-use Rattle.layout.specs.Rules.{isDataAt, dataSets}
+use Rattle.layout.specs.Entries.{Entry, entryFrom, entriesFrom, at, start, extent, isData, numbersFit}
+use Rattle.layout.specs.Rules.{isDataAt}
 use Rattle.layout.specs.Answers.{padded, typeOf, nameOf, filenameOf, countOf, recordSizeOf, directoryOf}
 use Rattle.layout.proofs.Laws.{find-before}
 use Rattle.layout.proofs.Sound.{length-entries, at-entries}

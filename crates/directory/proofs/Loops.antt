@@ -7,10 +7,10 @@ use native.Mathlib.Omega.{arith}
 use native.Mathlib.Nat.{add-zero, zero-add, add-assoc, sub-zero}
 use native.Mathlib.Numerals.{add-one}
 use lib.Dec.{ltb}
-use borrow.Author.Tests.{lt-ltb, le-ltb, ltb-true, ltb-false}
+use borrow.Author.Tests.{lt-ltb, le-ltb}
 use Rattle.layout.specs.Answer.{Answer, accepted, refused}
 use Rattle.layout.specs.Search.{first, find, count}
-use Rattle.layout.proofs.Laws.{first-step, find-bounds}
+use Rattle.layout.proofs.Laws.{first-step}
 
 -- ---- what is left of a search from k on is the whole
 

@@ -16,13 +16,13 @@ use borrow.Author.Tests.{eq-eqb, ne-eqb, eqb-true, le-ltb}
 use Rattle.layout.specs.Bytes.{bytes, part, member}
 use Rattle.layout.specs.Text.{layout, lineClasses, valueClasses, valueWidth, quoteWidth, placeOf, widthOf, valueOf, whole}
 use Rattle.layout.specs.Lines.{mph}
-use Rattle.layout.specs.Answer.{Answer, accepted, refused, need, _orElse_}
+use Rattle.layout.specs.Answer.{accepted, refused, need, _orElse_}
 use Rattle.layout.specs.Answers.{verdictIs}
 use Rattle.layout.specs.declared.Verdict.{Verdict}
 use Rattle.layout.specs.Search.{first, laidOut}
 use Rattle.layout.specs.Sph.{sphLines}
 use Rattle.layout.specs.Entries.{Entry, eqZ, largestSigned, headerNumber, numDataSets, headersEnd, entries, dsdsAt, dsdAt, dsdBytes, entryOf, entriesFrom, entryAt, directory, at, start, extent, nonEmpty, isData, isReference, allZero, inRange, setFits, numbersFit}
-use Rattle.layout.specs.Rules.{linesOf, rule7At, rule7, rule8At, rule8, rule9At, rule9, rule10At, rule10, rule11, rule12, rule13, rule14, rules7to14}
+use Rattle.layout.specs.Rules.{linesOf, rule7, rule8At, rule8, rule9At, rule9, rule10At, rule10, rule11, rule12, rule13, rule14, rules7to14}
 use Rattle.layout.proofs.Laws.{need-accepts, orElse-accepts, orElse-assoc, first-accepts-0, first-found, find-bounds, find-at}
 use Rattle.layout.proofs.Padded.{padded-at}
 use Rattle.layout.proofs.Sound.{length-directory, at-directory, entry-at, directory-from}
@@ -189,7 +189,7 @@ module _ (b : List ℕ) (dsds n : ℕ) (placed : Dsds b dsds n) (r : Reading) (c
         ∙ rw (zero-add (entries b), ← length-directory b, ← counted .ten, length-all b dsds n placed, place b dsds n (r .fitting) placed)
 
     -- the numbers held are those of the directory
-    pub numbers-are : heldSets (directory b) ≡ setsOf (directory b)
+    numbers-are : heldSets (directory b) ≡ setsOf (directory b)
     numbers-are = held-same (directory b) (sym (counted .nine) ∙ none ∙ sym (length-all b dsds n placed))
 
     pub ten-stops : (r .fitting ≡ n → ⊥) → numberRules b m ≡ refused 10 (dsds + 280 * r .fitting) (r .fitting)
@@ -223,7 +223,7 @@ module _ (b : List ℕ) (dsds n : ℕ) (placed : Dsds b dsds n) (r : Reading) (c
       (which (leb (entryAt b (r .within) .offset .magnitude) largestSigned) (leb (entryAt b (r .within) .size .magnitude) largestSigned) (rw (← counted .nine, at-over (r .within) k) at over))
 
   -- where they accept, no number is over
-  pub none-over : numberRules b m ≡ accepted → r .within ≡ n
+  none-over : numberRules b m ≡ accepted → r .within ≡ n
   unfolding numberRules
   none-over h =
       let nine-ok = orElse-accepts (rule9 b m) (rule10 b m orElse rule11 b m) .0 h .0 in

@@ -36,15 +36,6 @@ over-none true true h = (refl, refl)
 over-none true false h = absurd (omega arith)
 over-none false u h = absurd (omega arith)
 
-pub over-most : (e : Entry) {r : ℕ} → r ≡ overPlace e → r ≤ 170
-unfolding overPlace
-over-most e h = go (leb (e .offset .magnitude) largestSigned) (leb (e .size .magnitude) largestSigned) h
-  where
-    go : (t u : Bool) {r : ℕ} → r ≡ cond t (cond u 0 170) 133 → r ≤ 170
-    go true true h = omega arith
-    go true false h = omega arith
-    go false u h = omega arith
-
 pub over-held : (e : Entry) → overPlace (viewOf (heldOf e)) ≡ overPlace e
 unfolding overPlace viewOf heldOf numberFrom
 over-held e = rw (capped-test (e .offset .magnitude), capped-test (e .size .magnitude))

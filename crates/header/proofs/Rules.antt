@@ -16,7 +16,7 @@ use Rattle.layout.specs.Text.{Number, numberOf, whole, layout}
 use Rattle.layout.specs.Lines.{mph}
 use Rattle.layout.specs.Answer.{Answer, accepted, refused, need, _orElse_}
 use Rattle.layout.specs.Search.{laidOut}
-use Rattle.layout.specs.Entries.{eqZ, withinZ, totSize, sphSize, numDsd, dsdSize, headersEnd, entries}
+use Rattle.layout.specs.Entries.{eqZ, withinZ, sphSize, numDsd, dsdSize, headersEnd, entries}
 use Rattle.layout.specs.Rules.{rule1, rule2, rule3, rule4, rule5, rule6, sphFits, dsdsFit, rules1to6}
 use Rattle.layout.specs.Answers.{verdictIs}
 use Rattle.layout.specs.declared.Refusal.{Refusal}

@@ -21,17 +21,17 @@ module _ {A : Type 0} where
   Pairs R [] = Unit {0}
   Pairs R (x ∷ xs) = All (λ y. R x y) xs × Pairs R xs
 
-  pub all-map : (P Q : A → Type 0) → ((x : A) → P x → Q x) → (xs : List A) → All P xs → All Q xs
+  all-map : (P Q : A → Type 0) → ((x : A) → P x → Q x) → (xs : List A) → All P xs → All Q xs
   all-map P Q f [] h = tt
   all-map P Q f (x ∷ xs) h = (f x (h .0), all-map P Q f xs (h .1))
 
   -- one that is so, and all are otherwise
-  pub all-some : (P Q : A → Type 0) → ((x : A) → P x → Q x → ⊥) → (xs : List A) → All P xs → Some Q xs → ⊥
+  all-some : (P Q : A → Type 0) → ((x : A) → P x → Q x → ⊥) → (xs : List A) → All P xs → Some Q xs → ⊥
   all-some P Q f [] h s = s
   all-some P Q f (x ∷ xs) h (inl q) = f x (h .0) q
   all-some P Q f (x ∷ xs) h (inr s) = all-some P Q f xs (h .1) s
 
-  pub all-zip : (P Q : A → Type 0) (xs : List A) → All P xs → All Q xs → All (λ x. P x × Q x) xs
+  all-zip : (P Q : A → Type 0) (xs : List A) → All P xs → All Q xs → All (λ x. P x × Q x) xs
   all-zip P Q [] h k = tt
   all-zip P Q (x ∷ xs) h k = ((h .0, k .0), all-zip P Q xs (h .1) (k .1))
 

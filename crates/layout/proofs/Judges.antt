@@ -21,13 +21,6 @@ pub record Judges (a : Answer) (k : ℕ) (Fault : ℕ → ℕ → Type 0) : Type
   pub clean : a ≡ accepted → (p e : ℕ) → Fault p e → ⊥
   pub lowest : (n p e : ℕ) → a ≡ refused n p e → (n ≡ k) × Lowest Fault p e
 
-pub upto-refl : (p e : ℕ) → Upto p e p e
-upto-refl p e = inr (refl, omega arith)
-
-pub upto-at : (p e q d p' e' q' d' : ℕ) → Upto p e q d → At p' e' p e → At q' d' q d → Upto p' e' q' d'
-upto-at p e q d p' e' q' d' (inl h) a b = inl (omega arith)
-upto-at p e q d p' e' q' d' (inr h) a b = inr (omega arith, omega arith)
-
 -- faults in other words
 pub same-faults : {a : Answer} {k : ℕ} (F G : ℕ → ℕ → Type 0) → ((p e : ℕ) → F p e ↔ G p e) → Judges a k F → Judges a k G
 same-faults F G same j = record {
@@ -104,7 +97,7 @@ module _ (f : ℕ → Answer) (k : ℕ) (F : ℕ → ℕ → ℕ → Type 0) (ea
       same : (p e : ℕ) → (F i p e ⊎ From (suc i) n p e) ↔ From i (suc n) p e
       same p e = (to p e, λ g. from p e (g .0) (g .1 .0) (g .1 .1 .0) (g .1 .1 .1) (lt-or-le i (g .0)))
 
-  pub first-judges : (i n : ℕ) → Judges (first f i n) k (λ p e. (j : ℕ) × ((i ≤ j) × ((j < i + n) × F j p e)))
+  first-judges : (i n : ℕ) → Judges (first f i n) k (λ p e. (j : ℕ) × ((i ≤ j) × ((j < i + n) × F j p e)))
   first-judges i n = first-judges-from i n
 
 -- a search over entries, each of which refuses with its own number
@@ -160,7 +153,7 @@ pub record JudgesAll (a : Answer) (k : ℕ) (Fs : List (ℕ → ℕ → Type 0))
   pub clean : a ≡ accepted → (i p e : ℕ) → getD Fs i Never p e → ⊥
   pub lowest : (n p e : ℕ) → a ≡ refused n p e → (i : ℕ) × ((n ≡ k + i) × (((j q d : ℕ) → j < i → getD Fs j Never q d → ⊥) × Lowest (getD Fs i Never) p e))
 
-pub no-rules : (k : ℕ) → JudgesAll accepted k []
+no-rules : (k : ℕ) → JudgesAll accepted k []
 no-rules k = record { clean = λ h i p e f. f; lowest = λ n p e h. absurd (accepted≢refused h) }
 
 -- a rule more in front; those behind it are looked at only where it has no fault

@@ -12,7 +12,7 @@ use lib.Dec.{T, leb, eqb, leb→le, le→leb, eqb→eq, eqb-refl, T-not, not-T}
 use lib.IntN.{ℤ, pos, negsuc}
 use lib.Signed.{leZ, ltZ, _≤ℤ_, _<ℤ_}
 use lib.ListN.{length, take, drop, getD}
-use lib.Seq.{drop-cons}
+use lib.Seq.{}
 use borrow.Author.Tests.{leb-true, leb-false, eq-eqb, ne-eqb}
 use Rattle.layout.specs.Text.{Class, fits}
 use Rattle.layout.specs.Answer.{Answer, accepted, refused, need, where′, _orElse_}
@@ -138,7 +138,7 @@ module _ (f : ℕ → Answer) where
   first-accepts-0 n = (λ h k l. first-accepts 0 n .0 h k (omega arith) (omega arith), λ h. first-accepts 0 n .1 (λ k l u. h k (omega arith)))
 
   -- something is found: at some number, and nothing before it
-  pub first-refuses : (i n m p e : ℕ) → first f i n ≡ refused m p e → (k : ℕ) × (i ≤ k) × (k < i + n) × (f k ≡ refused m p e) × ((j : ℕ) → i ≤ j → j < k → f j ≡ accepted)
+  first-refuses : (i n m p e : ℕ) → first f i n ≡ refused m p e → (k : ℕ) × (i ≤ k) × (k < i + n) × (f k ≡ refused m p e) × ((j : ℕ) → i ≤ j → j < k → f j ≡ accepted)
   unfolding first
   first-refuses i zero m p e h = absurd (accepted≢refused h)
   first-refuses i (suc n) m p e h = go (f i) refl h (first-refuses (suc i) n m p e)
@@ -155,10 +155,6 @@ module _ (f : ℕ → Answer) where
   pub first-step : (i n : ℕ) → i < n → first f i (n - i) ≡ (f i orElse first f (i + 1) (n - (i + 1)))
   unfolding first
   first-step i n h = let q : n - i ≡ suc (n - suc i) = omega arith in rw (q, add-one i)
-
-  pub first-end : (n : ℕ) → first f n (n - n) ≡ accepted
-  unfolding first
-  first-end n = let q : n - n ≡ 0 = omega arith in rw q
 
   first-skip′ : (m i n : ℕ) → ((k : ℕ) → i ≤ k → k < i + m → f k ≡ accepted) → first f i (m + n) ≡ first f (i + m) n
   unfolding first
@@ -229,14 +225,6 @@ find-same t u i (suc n) h = rw (h i (omega arith) (omega arith), find-same t u (
 -- ---- counting and finding
 
 module _ (t : ℕ → Bool) where
-  pub count-step : (i n : ℕ) → i < n → count t i (n - i) ≡ cond (t i) 1 0 + count t (i + 1) (n - (i + 1))
-  unfolding count
-  count-step i n h = let q : n - i ≡ suc (n - suc i) = omega arith in rw (q, add-one i)
-
-  pub count-end : (n : ℕ) → count t n (n - n) ≡ 0
-  unfolding count
-  count-end n = let q : n - n ≡ 0 = omega arith in rw q
-
   pub find-step : (i n : ℕ) → i < n → find t i (n - i) ≡ cond (t i) i (find t (i + 1) (n - (i + 1)))
   unfolding find
   find-step i n h = let q : n - i ≡ suc (n - suc i) = omega arith in rw (q, add-one i)
@@ -288,19 +276,13 @@ module _ (t : ℕ → Bool) where
 -- ---- bytes against a layout
 
 -- one layout after another
-pub laidOut-append : (n e : ℕ) (ks js : List Class) (b : List ℕ) (p : ℕ) → length ks ≤ length b
+laidOut-append : (n e : ℕ) (ks js : List Class) (b : List ℕ) (p : ℕ) → length ks ≤ length b
     → laidOut n e p (ks ++ js) b ≡ (laidOut n e p ks b orElse laidOut n e (p + length ks) js (drop (length ks) b))
 unfolding laidOut
 laidOut-append n e [] js b p h = rw (add-zero p)
 laidOut-append n e (k ∷ ks) js [] p h = absurd (not-suc-le-zero h)
 laidOut-append n e (k ∷ ks) js (x ∷ b) p h =
     rw (laidOut-append n e ks js b (suc p) (le-of-suc-le-suc h), orElse-assoc, add-suc p (length ks), suc-add p (length ks))
-
--- one byte of a layout, for a loop that goes through it by place
-pub laidOut-step : (d : Class) (n e : ℕ) (ks : List Class) (b : List ℕ) (p i : ℕ) → i < length ks → i < length b
-    → laidOut n e p (drop i ks) (drop i b) ≡ (need (fits (getD ks i d) (getD b i 0)) n p e orElse laidOut n e (suc p) (drop (suc i) ks) (drop (suc i) b))
-unfolding laidOut
-laidOut-step d n e ks b p i h l = rw (drop-cons ks i d h, drop-cons b i 0 l)
 
 -- only as many bytes count as the layout has
 pub laidOut-take : (n e : ℕ) (ks : List Class) (b : List ℕ) (p m : ℕ) → length ks ≤ m → laidOut n e p ks (take m b) ≡ laidOut n e p ks b

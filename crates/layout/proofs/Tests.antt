@@ -116,7 +116,7 @@ called-is (x ∷ xs) (y ∷ ys) = Iff·trans (and-T (eqb x y) (called xs ys)) (t
     from : T (called xs ys) ↔ ((n : ℕ) × (xs ≡ ys ++ replicate n 32)) → (n : ℕ) × (x ∷ xs ≡ y ∷ (ys ++ replicate n 32)) → T (eqb x y) × T (called xs ys)
     from below h = let e = h .1 in (eqb-T x y .1 (cc), below .1 (h .0, cc))
 
-pub called-T : (name : List ℕ) (text : String) → T (called name (bytes text)) ↔ Called name text
+called-T : (name : List ℕ) (text : String) → T (called name (bytes text)) ↔ Called name text
 called-T name text = called-is name (bytes text)
 
 -- ---- kinds of variable sets: the four names begin with letters of their own
@@ -178,7 +178,7 @@ module _ (f : Entry) where
 
 -- ---- numbers
 
-pub fixed-T : (f : Entry) → T (isFixed f) ↔ Fixed f
+fixed-T : (f : Entry) → T (isFixed f) ↔ Fixed f
 unfolding isFixed
 fixed-T f = simp tests Iff·rfl
 

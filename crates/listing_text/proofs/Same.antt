@@ -1,6 +1,6 @@
 -- What is written for a verdict, a length and a directory is the listing of document 01, for every input.
 -- Assumes nothing.
-use Prim.Native.Nat.{ℕ, zero, suc, _+_, _*_, _-_, _≤_, _<_}
+use Prim.Native.Nat.{ℕ, zero, suc, _-_, _≤_, _<_}
 use mathlib.Core.Bool.{Bool, true, false, cond}
 use mathlib.Core.Logic.{inl, inr}
 use mathlib.Core.Path.{_≡_, refl, sym, ap, _∙_, subst}
@@ -16,7 +16,7 @@ use Rattle.layout.specs.Bytes.{bytes, part}
 use Rattle.layout.specs.Text.{Number, whole, lineClasses, valueClasses, valueWidth, quoteWidth, placeOf, widthOf, valueOf}
 use Rattle.layout.specs.Lines.{dsd}
 use Rattle.layout.specs.Answer.{Answer, accepted, refused}
-use Rattle.layout.specs.Search.{upto, join}
+use Rattle.layout.specs.Search.{join}
 use Rattle.layout.specs.Entries.{Entry, headersEnd, entries, dsdsAt, dsdAt, dsdBytes, entryOf, directory, at, isData, start, extent}
 use Rattle.layout.specs.Rules.{verdict}
 use Rattle.layout.specs.Listing.{decimal, signedDecimal, trimmed, lineOf, entryLine, acceptedLines, listingFor, listing}

@@ -2,10 +2,10 @@
 -- Assumes nothing.
 use Prim.Native.Nat.{ℕ, _*_, _-_, _≤_, min}
 use mathlib.Core.List.{List}
-use mathlib.Core.Path.{_≡_, refl, sym, ap, _∙_, subst}
+use mathlib.Core.Path.{_≡_, sym, ap, _∙_, subst}
 use native.Mathlib.Omega.{arith}
 use lib.ListN.{length}
-use Rattle.layout.specs.Answer.{Answer, accepted, refused, _orElse_}
+use Rattle.layout.specs.Answer.{accepted, refused, _orElse_}
 use Rattle.layout.specs.Answers.{verdictIs}
 use Rattle.layout.specs.Entries.{Entry, headersEnd, entriesFrom, directory}
 use Rattle.layout.specs.States.{statesOf, tallyOf}

@@ -15,7 +15,7 @@ use Rattle.layout.specs.Records.{Span, lengths, recordAt, recordLength, recordP
 use Rattle.layout.specs.Fields.{recordOf}
 use Rattle.layout.specs.Answers.{placeIs, directoryOf}
 use Rattle.layout.specs.declared.Refusal.{Refusal}
-use Rattle.layout.specs.declared.Verdict.the-variants.{Accepted, Refused}
+use Rattle.layout.specs.declared.Verdict.the-variants.{Refused}
 use Rattle.layout.specs.declared.Place.{Place}
 use Rattle.layout.specs.declared.Place.the-variants as places
 use Rattle.layout.proofs.Laws.{orElse-accepts, need-accepts}
@@ -94,20 +94,20 @@ module _ (b : List ℕ) (i j : ℕ) where
       omega (arith, p, record-inside b (sound b (t .0)) i j (t .1 .0) (t .1 .1))
 
   -- the record that a place gives is layout's, and a refusal of the place is the field's
-  pub record-there : (s : Span) → recordPlace b i j ≡ is s → (recordRefusal b i j ≡ accepted) × (recordOf b i j ≡ part b (s .place) (s .length))
+  record-there : (s : Span) → recordPlace b i j ≡ is s → (recordRefusal b i j ≡ accepted) × (recordOf b i j ≡ part b (s .place) (s .length))
   unfolding recordOf recordPart
   record-there s h = let r = else-is (recordRefusal b i j) span s (sym place-span ∙ h) in (r .0, ap (λ (x : Span). part b (x .place) (x .length)) (r .1))
 
-  pub record-refused : (n p e : ℕ) → recordPlace b i j ≡ refusal n p e → recordRefusal b i j ≡ refused n p e
+  record-refused : (n p e : ℕ) → recordPlace b i j ≡ refusal n p e → recordRefusal b i j ≡ refused n p e
   record-refused n p e h = else-refusal (recordRefusal b i j) span n p e (sym place-span ∙ h)
 
 -- what a place is
 module _ (b : List ℕ) (r : Place) (a : Reply Span) (answered : placeIs r ≡ a) where
-  pub at-place : (p n : ℕ) → r ≡ places.At p n → a ≡ is (record { place = p; length = n })
+  at-place : (p n : ℕ) → r ≡ places.At p n → a ≡ is (record { place = p; length = n })
   unfolding placeIs
   at-place p n h = sym answered ∙ rw h
 
-  pub no-place : (x : Refusal) → r ≡ places.Refused x → a ≡ refusal (x .number) (x .place) (x .entry)
+  no-place : (x : Refusal) → r ≡ places.Refused x → a ≡ refusal (x .number) (x .place) (x .entry)
   unfolding placeIs
   no-place x h = sym answered ∙ rw h
 

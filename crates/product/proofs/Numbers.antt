@@ -44,7 +44,7 @@ module _ (b : List ℕ) where
 
   module _ (i j : ℕ) where
     -- a record is refused by 17 and 18 too
-    pub record-refusal-number : Numbered 18 (recordRefusal b i j)
+    record-refusal-number : Numbered 18 (recordRefusal b i j)
     unfolding recordRefusal
     record-refusal-number =
         orElse-numbered 16 18 (verdict b) _ (omega arith) verdict-number

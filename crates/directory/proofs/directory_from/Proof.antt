@@ -1,7 +1,6 @@
 -- `directory::directory_from` meets its contract.
 -- Assumes nothing.
-use mathlib.Core.Path.{refl, _∙_}
-use native.Mathlib.Omega.{arith}
+use mathlib.Core.Path.{_∙_}
 use borrow.Author.Needs.{needs}
 use Rattle.directory.specs.Numbers.{directoryWith}
 use Rattle.directory.proofs.Held.{names-are, filenames-are}

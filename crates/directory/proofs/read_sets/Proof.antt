@@ -1,6 +1,6 @@
 -- `directory::read_sets` meets its contract: the arrays lent hold the entries read so far, and the counts are those of the entries read so far.
 -- Assumes nothing.
-use Prim.Native.Nat.{_+_, _≤_, _<_, _-_}
+use Prim.Native.Nat.{_≤_, _<_, _-_}
 use mathlib.Core.List.{map}
 use mathlib.Core.Path.{_≡_, sym, ap, _∙_}
 use native.Mathlib.Omega.{arith}

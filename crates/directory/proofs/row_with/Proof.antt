@@ -1,6 +1,5 @@
 -- `directory::row_with` meets its contract.
 -- Assumes nothing.
-use native.Mathlib.Omega.{arith}
 use borrow.Author.Tests.{lt-ltb, le-ltb}
 use borrow.Author.Needs.{needs}
 use Rattle.directory.proofs.row_with.Statement.{statement}
