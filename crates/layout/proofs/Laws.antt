@@ -12,7 +12,6 @@ use lib.Dec.{T, leb, eqb, leb→le, le→leb, eqb→eq, eqb-refl, T-not, not-T}
 use lib.IntN.{ℤ, pos, negsuc}
 use lib.Signed.{leZ, ltZ, _≤ℤ_, _<ℤ_}
 use lib.ListN.{length, take, drop, getD}
-use lib.Seq.{}
 use borrow.Author.Tests.{leb-true, leb-false, eq-eqb, ne-eqb}
 use Rattle.layout.specs.Text.{Class, fits}
 use Rattle.layout.specs.Answer.{Answer, accepted, refused, need, where′, _orElse_}
