@@ -40,11 +40,13 @@ refuse-requires c κs = search needs
 returns : tie.Need-returns Inv-loop μ-loop
 unfolding verdictIs
 returns c =
+    let args = c .before .before .before .before .before .before .args in
+    let turn = c .before .before .before .before .loop in
     c .refuse .ensures
     ∙ sym
-    (left-refused (rule8At (c .before .before .before .before .before .before .args .p .now)) (c .before .before .before .before .before .before .args .entries) (c .before .before .before .before .loop .i) (c .before .before .before .before .loop .inv .1) (omega arith)
-    (eight (c .before .before .before .before .before .before .args .p .now) (c .before .before .before .before .before .before .args .dsds) (c .before .before .before .before .before .before .args .entries) (c .before .before .before .before .loop .i) (c .before .before .before .before .before .before .pre) (c .before .before .dsd-check .result) (c .before .before .dsd-check .ensures)
-    ∙ rw (ne-eqb (c .before .before .dsd-check .result) (c .before .before .before .before .before .before .args .dsds + 280 * c .before .before .before .before .loop .i + 280) (c .before .if1 .taken))))
+    (left-refused (rule8At (args .p .now)) (args .entries) (turn .i) (turn .inv .1) (omega arith)
+    (eight (args .p .now) (args .dsds) (args .entries) (turn .i) (c .before .before .before .before .before .before .pre) (c .before .before .dsd-check .result) (c .before .before .dsd-check .ensures)
+    ∙ rw (ne-eqb (c .before .before .dsd-check .result) (args .dsds + 280 * turn .i + 280) (c .before .if1 .taken))))
 
 add-i : tie.Need-add-i Inv-loop μ-loop
 add-i c = omega arith
@@ -53,16 +55,20 @@ loop-less : tie.Need-loop-less Inv-loop μ-loop
 loop-less c = omega arith
 
 loop-again : tie.Need-loop-again Inv-loop μ-loop
-loop-again c = (
-  omega arith,
-  left-next (rule8At (c .before .before .before .before .before .args .p .now)) (c .before .before .before .before .before .args .entries) (c .before .before .before .loop .i) (c .before .before .before .loop .inv .1) (omega arith)
-      (eight (c .before .before .before .before .before .args .p .now) (c .before .before .before .before .before .args .dsds) (c .before .before .before .before .before .args .entries) (c .before .before .before .loop .i) (c .before .before .before .before .before .pre) (c .before .dsd-check .result) (c .before .dsd-check .ensures)
-      ∙ rw (eq-eqb (c .before .dsd-check .result) (c .before .before .before .before .before .args .dsds + 280 * c .before .before .before .loop .i + 280) (c .if1 .left))),
-)
+loop-again c =
+    let args = c .before .before .before .before .before .args in
+    let turn = c .before .before .before .loop in (
+      omega arith,
+      left-next (rule8At (args .p .now)) (args .entries) (turn .i) (turn .inv .1) (omega arith)
+          (eight (args .p .now) (args .dsds) (args .entries) (turn .i) (c .before .before .before .before .before .pre) (c .before .dsd-check .result) (c .before .dsd-check .ensures)
+          ∙ rw (eq-eqb (c .before .dsd-check .result) (args .dsds + 280 * turn .i + 280) (c .if1 .left))),
+    )
 
 returns-2 : tie.Need-returns-2 Inv-loop μ-loop
 unfolding verdictIs
-returns-2 c = sym (left-end (rule8At (c .before .before .before .args .p .now)) (c .before .before .before .args .entries) (c .before .loop .i) (c .before .loop .inv .1) (omega arith))
+returns-2 c =
+    let args = c .before .before .before .args in
+    sym (left-end (rule8At (args .p .now)) (args .entries) (c .before .loop .i) (c .before .loop .inv .1) (omega arith))
 
 pub check-dsds-spec : {M : Type 1} → statement M
 check-dsds-spec =

@@ -23,7 +23,9 @@ refuse-requires c κs = search needs
 
 returns : tie.Need-returns
 unfolding placeRules
-returns c = record { answer = λ ds held e. c .refuse .ensures ∙ sym (rw (e, c .before .before .before .first-outside .ensures .answer ds held e, ne-eqb (c .before .before .before .first-outside .result) (c .before .before .before .before .args .entries) (c .before .before .if1 .taken))) }
+returns c =
+    let first-outside = c .before .before .before .first-outside in
+    record { answer = λ ds held e. c .refuse .ensures ∙ sym (rw (e, first-outside .ensures .answer ds held e, ne-eqb (first-outside .result) (c .before .before .before .before .args .entries) (c .before .before .if1 .taken))) }
 
 first-overlapping-requires : tie.Need-first-overlapping-requires
 first-overlapping-requires c κs = search needs
@@ -39,7 +41,11 @@ refuse-requires-2 c κs = search needs
 
 returns-2 : tie.Need-returns-2
 unfolding placeRules
-returns-2 c = record { answer = λ ds held e. c .refuse2 .ensures ∙ sym (rw (e, c .before .before .before .before .before .first-outside .ensures .answer ds held e, eq-eqb (c .before .before .before .before .before .first-outside .result) (c .before .before .before .before .before .before .args .entries) (c .before .before .before .before .if1 .left), c .before .before .before .first-overlapping .ensures .answer ds held e, ne-eqb (c .before .before .before .first-overlapping .result) (c .before .before .before .before .before .before .args .entries) (c .before .before .if2 .taken))) }
+returns-2 c =
+    let first-outside = c .before .before .before .before .before .first-outside in
+    let args = c .before .before .before .before .before .before .args in
+    let first-overlapping = c .before .before .before .first-overlapping in
+    record { answer = λ ds held e. c .refuse2 .ensures ∙ sym (rw (e, first-outside .ensures .answer ds held e, eq-eqb (first-outside .result) (args .entries) (c .before .before .before .before .if1 .left), first-overlapping .ensures .answer ds held e, ne-eqb (first-overlapping .result) (args .entries) (c .before .before .if2 .taken))) }
 
 first-uncovered-requires : tie.Need-first-uncovered-requires
 first-uncovered-requires c κs = search needs
@@ -49,11 +55,19 @@ refuse-requires-3 c κs = search needs
 
 returns-3 : tie.Need-returns-3
 unfolding placeRules
-returns-3 c = record { answer = λ ds held e. c .refuse3 .ensures ∙ sym (rw (e, c .before .before .before .before .before .before .first-outside .ensures .answer ds held e, eq-eqb (c .before .before .before .before .before .before .first-outside .result) (c .before .before .before .before .before .before .before .args .entries) (c .before .before .before .before .before .if1 .left), c .before .before .before .before .first-overlapping .ensures .answer ds held e, eq-eqb (c .before .before .before .before .first-overlapping .result) (c .before .before .before .before .before .before .before .args .entries) (c .before .before .before .if2 .left), c .before .before .first-uncovered .ensures .answer ds held e, ne-eqb (c .before .before .first-uncovered .result) (c .before .before .before .before .before .before .before .args .length) (c .before .if3 .taken))) }
+returns-3 c =
+    let first-outside = c .before .before .before .before .before .before .first-outside in
+    let args = c .before .before .before .before .before .before .before .args in
+    let first-overlapping = c .before .before .before .before .first-overlapping in
+    record { answer = λ ds held e. c .refuse3 .ensures ∙ sym (rw (e, first-outside .ensures .answer ds held e, eq-eqb (first-outside .result) (args .entries) (c .before .before .before .before .before .if1 .left), first-overlapping .ensures .answer ds held e, eq-eqb (first-overlapping .result) (args .entries) (c .before .before .before .if2 .left), c .before .before .first-uncovered .ensures .answer ds held e, ne-eqb (c .before .before .first-uncovered .result) (args .length) (c .before .if3 .taken))) }
 
 returns-4 : tie.Need-returns-4
 unfolding verdictIs placeRules
-returns-4 c = record { answer = λ ds held e. sym (rw (e, c .before .before .before .before .before .first-outside .ensures .answer ds held e, eq-eqb (c .before .before .before .before .before .first-outside .result) (c .before .before .before .before .before .before .args .entries) (c .before .before .before .before .if1 .left), c .before .before .before .first-overlapping .ensures .answer ds held e, eq-eqb (c .before .before .before .first-overlapping .result) (c .before .before .before .before .before .before .args .entries) (c .before .before .if2 .left), c .before .first-uncovered .ensures .answer ds held e, eq-eqb (c .before .first-uncovered .result) (c .before .before .before .before .before .before .args .length) (c .if3 .left))) }
+returns-4 c =
+    let first-outside = c .before .before .before .before .before .first-outside in
+    let args = c .before .before .before .before .before .before .args in
+    let first-overlapping = c .before .before .before .first-overlapping in
+    record { answer = λ ds held e. sym (rw (e, first-outside .ensures .answer ds held e, eq-eqb (first-outside .result) (args .entries) (c .before .before .before .before .if1 .left), first-overlapping .ensures .answer ds held e, eq-eqb (first-overlapping .result) (args .entries) (c .before .before .if2 .left), c .before .first-uncovered .ensures .answer ds held e, eq-eqb (c .before .first-uncovered .result) (args .length) (c .if3 .left))) }
 
 pub check-places-spec : {M : Type 1} → statement M
 check-places-spec =

@@ -17,14 +17,19 @@ refuse-requires c κs = search needs
 
 returns : tie.Need-returns
 unfolding textRules
-returns c = λ n. c .refuse .ensures ∙ sym (rw (seven (c .before .before .before .before .args .p .now) (c .before .before .before .before .args .dsds) (c .before .before .before .before .args .entries) (c .before .before .before .before .pre) (c .before .before .first-bad-line .result) (c .before .before .first-bad-line .ensures) n, ne-eqb (c .before .before .first-bad-line .result) (c .before .before .before .before .args .dsds) (c .before .if1 .taken)))
+returns c =
+    let args = c .before .before .before .before .args in
+    λ n. c .refuse .ensures ∙ sym (rw (seven (args .p .now) (args .dsds) (args .entries) (c .before .before .before .before .pre) (c .before .before .first-bad-line .result) (c .before .before .first-bad-line .ensures) n, ne-eqb (c .before .before .first-bad-line .result) (args .dsds) (c .before .if1 .taken)))
 
 check-dsds-requires : tie.Need-check-dsds-requires
 check-dsds-requires c κs = search needs
 
 returns-2 : tie.Need-returns-2
 unfolding textRules
-returns-2 c = λ n. c .check-dsds .ensures ∙ sym (rw (seven (c .before .before .before .before .args .p .now) (c .before .before .before .before .args .dsds) (c .before .before .before .before .args .entries) (c .before .before .before .before .pre) (c .before .before .first-bad-line .result) (c .before .before .first-bad-line .ensures) n, eq-eqb (c .before .before .first-bad-line .result) (c .before .before .before .before .args .dsds) (c .before .if1 .left), eight-all (c .before .before .before .before .args .p .now) (c .before .before .before .before .args .dsds) (c .before .before .before .before .args .entries) (c .before .before .before .before .pre) n))
+returns-2 c =
+    let args = c .before .before .before .before .args in
+    let pre = c .before .before .before .before .pre in
+    λ n. c .check-dsds .ensures ∙ sym (rw (seven (args .p .now) (args .dsds) (args .entries) (pre) (c .before .before .first-bad-line .result) (c .before .before .first-bad-line .ensures) n, eq-eqb (c .before .before .first-bad-line .result) (args .dsds) (c .before .if1 .left), eight-all (args .p .now) (args .dsds) (args .entries) (pre) n))
 
 pub check-text-spec : {M : Type 1} → statement M
 check-text-spec =

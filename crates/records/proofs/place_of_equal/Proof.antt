@@ -18,7 +18,9 @@ refuse-requires : tie.Need-refuse-requires
 refuse-requires c κs = search needs
 
 returns : tie.Need-returns
-returns c = c .refuse .ensures ∙ no-record _ _ (c .before .before .before .before .pre .0) _ (c .before .before .before .before .pre .1) (c .before .before .before .before .pre .2) _ (c .before .if1 .taken)
+returns c =
+    let pre = c .before .before .before .before .pre in
+    c .refuse .ensures ∙ no-record _ _ (pre .0) _ (pre .1) (pre .2) _ (c .before .if1 .taken)
 
 mul-length : tie.Need-mul-length
 mul-length c = omega (arith, entries-few _ _ (c .before .before .before .before .before .pre .0))
@@ -36,14 +38,20 @@ array-read-t13 : tie.Need-array-read-t13
 array-read-t13 c = omega (arith, entries-few _ _ (c .before .before .before .before .before .pre .0))
 
 mul-t20 : tie.Need-mul-t20
-mul-t20 c = omega (arith, record-inside _ _ (c .before .before .before .before .before .pre .0) _ (c .before .before .before .before .before .pre .1) (c .before .before .before .before .before .pre .2) _ (c .before .before .if1 .left))
+mul-t20 c =
+    let pre = c .before .before .before .before .before .pre in
+    omega (arith, record-inside _ _ (pre .0) _ (pre .1) (pre .2) _ (c .before .before .if1 .left))
 
 add-t21 : tie.Need-add-t21
-add-t21 c = omega (arith, record-inside _ _ (c .before .before .before .before .before .pre .0) _ (c .before .before .before .before .before .pre .1) (c .before .before .before .before .before .pre .2) _ (c .before .before .if1 .left))
+add-t21 c =
+    let pre = c .before .before .before .before .before .pre in
+    omega (arith, record-inside _ _ (pre .0) _ (pre .1) (pre .2) _ (c .before .before .if1 .left))
 
 returns-2 : tie.Need-returns-2
 unfolding placeIs
-returns-2 c = equal-record _ _ (c .before .before .before .before .before .pre .0) _ (c .before .before .before .before .before .pre .1) (c .before .before .before .before .before .pre .2) _ (c .before .before .if1 .left)
+returns-2 c =
+    let pre = c .before .before .before .before .before .pre in
+    equal-record _ _ (pre .0) _ (pre .1) (pre .2) _ (c .before .before .if1 .left)
 
 pub place-of-equal-spec : {M : Type 1} → statement M
 place-of-equal-spec =

@@ -17,19 +17,27 @@ array-read-role : tie.Need-array-read-role
 array-read-role c = omega (arith, entries-few _ _ (c .before .before .before .before .pre))
 
 place-of-equal-requires : tie.Need-place-of-equal-requires
-place-of-equal-requires c κs = (c .before .before .before .before .before .pre, c .before .before .if1 .left, not-below _ _ (c .before .before .before .before .before .pre) _ (c .before .before .if1 .left) (c .if2 .taken))
+place-of-equal-requires c κs =
+    let pre = c .before .before .before .before .before .pre in
+    (pre, c .before .before .if1 .left, not-below _ _ (pre) _ (c .before .before .if1 .left) (c .if2 .taken))
 
 returns-2 : tie.Need-returns-2
 returns-2 c = c .place-of-equal .ensures ∙ sym (in-entries _ _ (c .before .before .before .before .before .before .pre) _ (c .before .before .before .if1 .left) _)
 
 place-of-equal-requires-2 : tie.Need-place-of-equal-requires-2
-place-of-equal-requires-2 c κs = (c .before .before .before .before .before .before .pre, c .before .before .before .if1 .left, not-above _ _ (c .before .before .before .before .before .before .pre) _ (c .before .before .before .if1 .left) (c .if3 .taken))
+place-of-equal-requires-2 c κs =
+    let pre = c .before .before .before .before .before .before .pre in
+    let first = c .before .before .before .if1 in
+    (pre, first .left, not-above _ _ (pre) _ (first .left) (c .if3 .taken))
 
 returns-3 : tie.Need-returns-3
 returns-3 c = c .place-of-equal2 .ensures ∙ sym (in-entries _ _ (c .before .before .before .before .before .before .before .pre) _ (c .before .before .before .before .if1 .left) _)
 
 place-of-unequal-requires : tie.Need-place-of-unequal-requires
-place-of-unequal-requires c κs = let m = is-between _ _ (c .before .before .before .before .before .before .pre) _ (c .before .before .before .if1 .left) (c .before .if2 .left) (c .if3 .left) in (c .before .before .before .before .before .before .pre, c .before .before .before .if1 .left, m .0, m .1)
+place-of-unequal-requires c κs =
+    let pre = c .before .before .before .before .before .before .pre in
+    let first = c .before .before .before .if1 in
+    let m = is-between _ _ (pre) _ (first .left) (c .before .if2 .left) (c .if3 .left) in (pre, first .left, m .0, m .1)
 
 returns-4 : tie.Need-returns-4
 returns-4 c = c .place-of-unequal .ensures ∙ sym (in-entries _ _ (c .before .before .before .before .before .before .before .pre) _ (c .before .before .before .before .if1 .left) _)
