@@ -1,7 +1,7 @@
 -- Arrays of 128 places and runs of texts that are filled one after the other, over any function of the number.
 -- Assumes nothing.
 use Prim.Native.Nat.{ℕ, zero, suc, _+_, _*_, _-_, _≤_, _<_}
-use mathlib.Core.List.{List, [], _∷_, _++_, map, map-append, append-nil, append-assoc}
+use mathlib.Core.List.{List, [], _∷_, _++_, map}
 use mathlib.Core.Path.{_≡_, refl, sym, ap, _∙_}
 use native.Mathlib.Omega.{arith}
 use native.Mathlib.Nat.{sub-zero, mul-le-mul-left}
@@ -9,11 +9,8 @@ use lib.ListN.{length, drop, set, replicate, length-append, length-replicate}
 use lib.Seq.{append-snoc, set-at, sets, sets-eq, length-sets, take-at, drop-append-add}
 use Rattle.layout.specs.Search.{upto, join}
 use Rattle.layout.specs.Answers.{padded}
-use Rattle.layout.proofs.Laws.{upto-one-more}
+use Rattle.layout.proofs.Laws.{map-one-more, join-one-more}
 use Rattle.layout.proofs.Sound.{length-map-upto}
-
-one-further : {A : Type 0} (f : ℕ → A) (i : ℕ) → map f (upto 0 (i + 1)) ≡ map f (upto 0 i) ++ (f i ∷ [])
-one-further f i = ap (map f) (upto-one-more i) ∙ map-append f (upto 0 i) (i ∷ [])
 
 -- ---- an array that holds the first of them
 
@@ -39,7 +36,7 @@ module _ {A : Type 0} (f : ℕ → A) (z : A) where
       held-length = length-map-upto f 0 i
 
       next : map f (upto 0 (i + 1)) ≡ held ++ (v ∷ [])
-      next = one-further f i ∙ ap (λ (x : A). held ++ (x ∷ [])) (sym q)
+      next = map-one-more f i ∙ ap (λ (x : A). held ++ (x ∷ [])) (sym q)
 
       next-length : length (held ++ (v ∷ [])) ≡ i + 1
       next-length = length-append held (v ∷ []) ∙ ap (λ (k : ℕ). k + 1) held-length
@@ -51,10 +48,6 @@ module _ {A : Type 0} (f : ℕ → A) (z : A) where
       right = omega arith
 
 -- ---- texts of one width put one after the other into zeros
-
-join-snoc : (xs : List (List ℕ)) (x : List ℕ) → join (xs ++ (x ∷ [])) ≡ join xs ++ x
-join-snoc [] x = append-nil x
-join-snoc (y ∷ ys) x = ap (λ (l : List ℕ). y ++ l) (join-snoc ys x) ∙ sym (append-assoc y (join ys) x)
 
 drop-zeros : (n m : ℕ) → drop {A = ℕ} n (replicate m 0) ≡ replicate (m - n) 0
 drop-zeros zero m = rw (sub-zero m)
@@ -92,7 +85,7 @@ module _ (f : ℕ → List ℕ) (w total : ℕ) where
       before = join (map f (upto 0 i))
 
       more : join (map f (upto 0 (i + 1))) ≡ before ++ s
-      more = ap join (one-further f i) ∙ join-snoc (map f (upto 0 i)) (f i) ∙ ap (λ (x : List ℕ). before ++ x) (sym e)
+      more = join-one-more f i ∙ ap (λ (x : List ℕ). before ++ x) (sym e)
 
       zeros : List ℕ
       zeros = replicate (total - length before) 0

@@ -13,7 +13,7 @@ use Rattle.layout.specs.Search.{find, upto, join}
 use Rattle.layout.specs.Entries.{Entry, entryFrom, entriesFrom, at, start, extent, isData, numbersFit}
 use Rattle.layout.specs.Rules.{isDataAt}
 use Rattle.layout.specs.Answers.{padded, typeOf, nameOf, filenameOf, countOf, recordSizeOf, directoryOf}
-use Rattle.layout.proofs.Laws.{find-before}
+use Rattle.layout.proofs.Laws.{find-before, not-not}
 use Rattle.layout.proofs.Sound.{length-entries, at-entries}
 use Rattle.dsd.specs.declared.Entry.{Entry as HeldEntry}
 use Rattle.dsd.specs.Held.{heldOf, viewOf, overPlace, roleOf, Read}
@@ -36,19 +36,11 @@ module _ (b : List ℕ) (from n i : ℕ) (inside : i < n) (h : HeldEntry) (read 
 
   pub over-is : {over : ℕ} → over ≡ overPlace (viewOf h) → eqb over 0 ≡ not (overAt (entriesFrom b from n) i)
   unfolding overAt
-  over-is e = rw (e, held-is, over-held (entryFrom b from i), at-is) (sym (twice (eqb (overPlace (entryFrom b from i)) 0)))
-    where
-      twice : (t : Bool) → not (not t) ≡ t
-      twice true = refl
-      twice false = refl
+  over-is e = rw (e, held-is, over-held (entryFrom b from i), at-is) (sym (not-not (eqb (overPlace (entryFrom b from i)) 0)))
 
   pub fits-is : {fits : Bool} → fits ≡ numbersFit (viewOf h) → fits ≡ not (unfitAt (entriesFrom b from n) i)
   unfolding unfitAt
-  fits-is e = e ∙ rw (held-is, at-is) (sym (twice (numbersFit (viewOf (heldOf (entryFrom b from i))))))
-    where
-      twice : (t : Bool) → not (not t) ≡ t
-      twice true = refl
-      twice false = refl
+  fits-is e = e ∙ rw (held-is, at-is) (sym (not-not (numbersFit (viewOf (heldOf (entryFrom b from i))))))
 
   pub counted-is : isData (viewOf h) ≡ isDataAt (entriesFrom b from n) i
   unfolding isDataAt isData viewOf heldOf

@@ -23,7 +23,7 @@ use Rattle.layout.specs.Search.{first, laidOut}
 use Rattle.layout.specs.Sph.{sphLines}
 use Rattle.layout.specs.Entries.{Entry, eqZ, largestSigned, headerNumber, numDataSets, headersEnd, entries, dsdsAt, dsdAt, dsdBytes, entryOf, entriesFrom, entryAt, directory, at, start, extent, nonEmpty, isData, isReference, allZero, inRange, setFits, numbersFit}
 use Rattle.layout.specs.Rules.{linesOf, rule7, rule8At, rule8, rule9At, rule9, rule10At, rule10, rule11, rule12, rule13, rule14, rules7to14}
-use Rattle.layout.proofs.Laws.{need-accepts, orElse-accepts, orElse-assoc, first-accepts-0, first-found, find-bounds, find-at}
+use Rattle.layout.proofs.Laws.{need-accepts, orElse-accepts, orElse-assoc, first-accepts-0, first-found, find-bounds, find-at, not-not}
 use Rattle.layout.proofs.Padded.{padded-at}
 use Rattle.layout.proofs.Sound.{length-directory, at-directory, entry-at, directory-from}
 use Rattle.layout.proofs.Tests.{is-true}
@@ -155,10 +155,6 @@ module _ (b : List ℕ) (m : ℕ) (eight : rule8 b m ≡ accepted) (ten : rule10
 -- ---- rules 9 to 11, by what a reading counts
 
 module _ (b : List ℕ) (dsds n : ℕ) (placed : Dsds b dsds n) (r : Reading) (counted : Counted (directory b) r) (m : ℕ) where
-  twice : (t : Bool) → t ≡ not (not t)
-  twice true = refl
-  twice false = refl
-
   which : (t u : Bool) → T (not (eqb (cond t (cond u 0 170) 133) 0)) → _≡_ {A = ℕ} (cond t 170 133) (cond t (cond u 0 170) 133)
   which true true h = absurd h
   which true false h = refl
@@ -172,7 +168,7 @@ module _ (b : List ℕ) (dsds n : ℕ) (placed : Dsds b dsds n) (r : Reading) (c
   unfolding rule9 overAt
   nine-by =
       first-found (overAt (directory b)) (rule9At b) 9 0 (entries b) (λ j. dsdAt b j + overPlace (entryAt b j))
-      (λ j l u. nine b j ∙ rw (at-directory b j (omega arith), ← twice (eqb (overPlace (entryAt b j)) 0)))
+      (λ j l u. nine b j ∙ rw (at-directory b j (omega arith), not-not (eqb (overPlace (entryAt b j)) 0)))
       ∙ rw (zero-add (entries b), ← length-directory b, ← counted .nine, length-all b dsds n placed, place b dsds n (r .within) placed)
 
   module _ (none : r .within ≡ n) where
@@ -185,7 +181,7 @@ module _ (b : List ℕ) (dsds n : ℕ) (placed : Dsds b dsds n) (r : Reading) (c
     unfolding rule10 rule10At unfitAt
     ten-by =
         first-found (unfitAt (directory b)) (rule10At b) 10 0 (entries b) (dsdAt b)
-        (λ j l u. rw (at-directory b j (omega arith), turn-held (entryAt b j) (not-over-at j (omega arith)) .fits, ← twice (numbersFit (entryAt b j))))
+        (λ j l u. rw (at-directory b j (omega arith), turn-held (entryAt b j) (not-over-at j (omega arith)) .fits, not-not (numbersFit (entryAt b j))))
         ∙ rw (zero-add (entries b), ← length-directory b, ← counted .ten, length-all b dsds n placed, place b dsds n (r .fitting) placed)
 
     -- the numbers held are those of the directory

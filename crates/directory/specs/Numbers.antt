@@ -15,16 +15,20 @@ abbrev pub together : ℕ → List ℕ → List ℕ → List ℕ → List ℕ �
 together n types offsets sizes counts record-sizes roles =
     record { entries = n; types = types; offsets = offsets; sizes = sizes; counts = counts; «record_sizes» = record-sizes; roles = roles }
 
-unfoldable pub setsOf : List Entry → Sets
-setsOf ds =
+-- type, count and record size of each entry, and these three of it
+abbrev pub setsBy : (starts extents roles : Entry → ℕ) → List Entry → Sets
+setsBy starts extents roles ds =
     together
     (length ds)
     (padded 128 0 (map typeOf ds))
-    (padded 128 0 (map start ds))
-    (padded 128 0 (map extent ds))
+    (padded 128 0 (map starts ds))
+    (padded 128 0 (map extents ds))
     (padded 128 0 (map countOf ds))
     (padded 128 (pos 0) (map recordSizeOf ds))
-    (padded 128 0 (map roleOf ds))
+    (padded 128 0 (map roles ds))
+
+unfoldable pub setsOf : List Entry → Sets
+setsOf ds = setsBy start extent roleOf ds
 
 abbrev pub noSets : Sets
 noSets =
@@ -42,15 +46,7 @@ abbrev pub heldRole : Entry → ℕ
 heldRole e = roleOf (viewOf (heldOf e))
 
 unfoldable pub heldSets : List Entry → Sets
-heldSets ds =
-    together
-    (length ds)
-    (padded 128 0 (map typeOf ds))
-    (padded 128 0 (map heldStart ds))
-    (padded 128 0 (map heldExtent ds))
-    (padded 128 0 (map countOf ds))
-    (padded 128 (pos 0) (map recordSizeOf ds))
-    (padded 128 0 (map heldRole ds))
+heldSets ds = setsBy heldStart heldExtent heldRole ds
 
 -- ---- the directory of these numbers, with the entries' texts
 

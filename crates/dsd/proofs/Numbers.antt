@@ -12,10 +12,6 @@ use borrow.Author.Tests.{eq-eqb, ne-eqb, eqb-true, le-leb, lt-leb, not-true, not
 use Rattle.layout.specs.Text.{Number, whole}
 use Rattle.layout.specs.Entries.{eqZ}
 
-pub not-not : (t : Bool) → not (not t) ≡ t
-not-not true = refl
-not-not false = refl
-
 -- two tests that pass together
 pub same-test : (x y : Bool) → (x ≡ true → y ≡ true) → (y ≡ true → x ≡ true) → x ≡ y
 same-test true y f g = sym (f refl)

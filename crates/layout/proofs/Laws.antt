@@ -3,7 +3,7 @@
 use Prim.Native.Nat.{ℕ, zero, suc, _+_, _-_, _≤_, _<_}
 use mathlib.Core.Bool.{Bool, true, false, cond, _&&_, _||_, not}
 use mathlib.Core.Logic.{_↔_, _⊎_, inl, inr, ⊎-elim}
-use mathlib.Core.List.{List, [], _∷_, _++_}
+use mathlib.Core.List.{List, [], _∷_, _++_, map, map-append, append-nil, append-assoc}
 use mathlib.Core.Path.{_≡_, refl, sym, ap, _∙_, subst}
 use native.Mathlib.Omega.{arith}
 use native.Mathlib.Nat.{add-zero, zero-add, add-suc, suc-add, le-of-suc-le-suc, not-suc-le-zero}
@@ -15,7 +15,7 @@ use lib.ListN.{length, take, drop, getD}
 use borrow.Author.Tests.{leb-true, leb-false, eq-eqb, ne-eqb}
 use Rattle.layout.specs.Text.{Class, fits}
 use Rattle.layout.specs.Answer.{Answer, accepted, refused, need, where′, _orElse_}
-use Rattle.layout.specs.Search.{first, some, count, find, laidOut, upto}
+use Rattle.layout.specs.Search.{first, some, count, find, laidOut, upto, join}
 use Rattle.layout.specs.Entries.{eqZ}
 
 pub lt-or-le : (a b : ℕ) → (a < b) ⊎ (b ≤ a)
@@ -24,6 +24,10 @@ lt-or-le a b = go (leb (suc a) b) refl
     go : (t : Bool) → leb (suc a) b ≡ t → (a < b) ⊎ (b ≤ a)
     go true e = inl (leb-true (suc a) b e)
     go false e = inr (let h : b < suc a = leb-false (suc a) b e in omega arith)
+
+pub not-not : (t : Bool) → not (not t) ≡ t
+not-not true = refl
+not-not false = refl
 
 -- ---- tests as statements
 
@@ -367,5 +371,17 @@ upto-next : (i n : ℕ) → upto i (suc n) ≡ upto i n ++ (i + n) ∷ []
 upto-next i zero = rw add-zero
 upto-next i (suc n) = ap (λ (l : List ℕ). i ∷ l) (upto-next (suc i) n ∙ rw (suc-add i n, add-suc i n))
 
-pub upto-one-more : (n : ℕ) → upto 0 (n + 1) ≡ upto 0 n ++ n ∷ []
+upto-one-more : (n : ℕ) → upto 0 (n + 1) ≡ upto 0 n ++ n ∷ []
 upto-one-more n = ap (upto 0) (add-one n) ∙ upto-next 0 n ∙ ap (λ (k : ℕ). upto 0 n ++ k ∷ []) (zero-add n)
+
+-- what each gives, and the lists that they give joined
+
+pub map-one-more : {A : Type 0} (f : ℕ → A) (n : ℕ) → map f (upto 0 (n + 1)) ≡ map f (upto 0 n) ++ (f n ∷ [])
+map-one-more f n = ap (map f) (upto-one-more n) ∙ map-append f (upto 0 n) (n ∷ [])
+
+pub join-append : {A : Type 0} (xs ys : List (List A)) → join (xs ++ ys) ≡ join xs ++ join ys
+join-append [] ys = refl
+join-append (x ∷ xs) ys = rw (join-append xs ys, append-assoc)
+
+pub join-one-more : {A : Type 0} (f : ℕ → List A) (n : ℕ) → join (map f (upto 0 (n + 1))) ≡ join (map f (upto 0 n)) ++ f n
+join-one-more f n = ap join (map-one-more f n) ∙ join-append (map f (upto 0 n)) (f n ∷ []) ∙ ap (λ (l : List _). join (map f (upto 0 n)) ++ l) (append-nil (f n))

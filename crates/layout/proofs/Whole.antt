@@ -4,7 +4,7 @@
 use Prim.Native.Nat.{ℕ, zero, suc, _+_, _-_, _≤_, _<_}
 use mathlib.Core.Bool.{Bool, true, false, cond, _&&_}
 use mathlib.Core.Logic.{_⊎_, inl, inr}
-use mathlib.Core.List.{List, [], _∷_, _++_, map, append-assoc}
+use mathlib.Core.List.{List, [], _∷_, _++_, map}
 use mathlib.Core.Path.{_≡_, refl, sym, ap, _∙_, subst, fun-ext}
 use native.Mathlib.Omega.{arith}
 use native.Mathlib.Nat.{add-assoc, add-zero, le-of-suc-le-suc, not-suc-le-zero}
@@ -20,7 +20,7 @@ use Rattle.layout.specs.Rules.{verdict}
 use Rattle.layout.specs.Faults.{NonEmpty, Byte, Fixed, Variable, NumbersFit}
 use Rattle.layout.specs.Records.{variableLengths, lengths, recordAt, recordLength, recordPart, records}
 use Rattle.layout.specs.Order.{sorted, select, nonEmptyAt, startAt, nonEmptySets, fileOrder, before, rank, recordsAt, recordsInOrder}
-use Rattle.layout.proofs.Laws.{lt-or-le}
+use Rattle.layout.proofs.Laws.{lt-or-le, join-append}
 use Rattle.layout.proofs.Chain.{Pairs, In, Apart, Inside, Chain, chain, joined, chain-joined, tally, sorted-all, sorted-some, sorted-pairs, sorted-sorted, sorted-count, starting-before, ranks}
 use Rattle.layout.proofs.Tests.{nonEmpty-T, nonEmpty-extent, variable-T}
 use Rattle.layout.proofs.Faults.{sum-replicate}
@@ -93,10 +93,6 @@ module _ (t : ℕ → Bool) where
       go false below = rw below (omega arith)
 
 -- ---- records joined
-
-join-append : {A : Type 0} (xs ys : List (List A)) → join (xs ++ ys) ≡ join xs ++ join ys
-join-append [] ys = refl
-join-append (x ∷ xs) ys = rw (join-append xs ys, append-assoc)
 
 map-shift : {A : Type 0} (f : ℕ → A) (i n : ℕ) → map f (upto (suc i) n) ≡ map (λ j. f (suc j)) (upto i n)
 map-shift f i zero = refl

@@ -3,13 +3,14 @@
 use Prim.Native.Nat.{ℕ, zero, suc, _+_, _-_, _≤_, _<_}
 use mathlib.Core.Bool.{Bool, true, false, cond, not, _||_}
 use mathlib.Core.List.{List, [], _∷_, _++_}
-use mathlib.Core.Path.{_≡_, refl, ap}
+use mathlib.Core.Path.{_≡_, refl, ap, sym}
 use native.Mathlib.Omega.{arith}
 use native.Mathlib.Numerals.{add-one}
 use lib.Dec.{eqb}
 use lib.ListN.{length, getD, replicate}
 use lib.Seq.{drop-cons}
 use borrow.Author.Tests.{eq-eqb, ne-eqb}
+use Rattle.layout.proofs.Laws.{not-not}
 use Rattle.layout.specs.Bytes.{part, byteAt}
 use Rattle.layout.specs.Text.{Class, exactly, fits, literal}
 use Rattle.layout.specs.Search.{find}
@@ -103,11 +104,7 @@ literal-bad t b p (suc n) h = rw (part-suc t p n (omega arith), literal-bad t b 
 module _ (t b : List ℕ) (i : ℕ) where
   pub same-test : eqb (getD b i 0) (getD t i 0) ≡ not (differs t b i)
   unfolding differs byteAt
-  same-test = go (eqb (getD b i 0) (getD t i 0))
-    where
-      go : (u : Bool) → u ≡ not (not u)
-      go true = refl
-      go false = refl
+  same-test = sym (not-not (eqb (getD b i 0) (getD t i 0)))
 
   pub is-same : getD b i 0 ≡ getD t i 0 → differs t b i ≡ false
   unfolding differs byteAt

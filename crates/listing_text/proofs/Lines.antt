@@ -1,16 +1,15 @@
 -- The laws of the listing's lines: how the words that are put one after the other make a line.
 -- Assumes nothing.
 use Prim.Native.Nat.{ℕ, _+_}
-use mathlib.Core.Path.{_≡_, refl, ap, _∙_}
-use mathlib.Core.List.{List, [], _∷_, _++_, map, append-assoc, append-nil}
+use mathlib.Core.Path.{_≡_, refl}
+use mathlib.Core.List.{[], _∷_, _++_}
 use lib.IntN.{ℤ, pos}
 use lib.ListN.{getD}
 use lib.Seq.{append-snoc}
 use Rattle.layout.specs.Bytes.{bytes}
-use Rattle.layout.specs.Search.{upto, join}
 use Rattle.layout.specs.Listing.{decimal, lineOf}
 use Rattle.layout.specs.Answers.{verdictIs}
-use Rattle.layout.proofs.Laws.{upto-one-more}
+use Rattle.layout.proofs.Laws.{join-one-more}
 use Rattle.layout.specs.declared.Directory.{Directory}
 use Rattle.layout.specs.declared.Refusal.{Refusal}
 use Rattle.layout.specs.declared.Verdict.{Verdict}
@@ -21,10 +20,6 @@ use Rattle.layout.specs.declared.Verdict.the-variants as cases
 
 -- ---- all entries
 
-join-more : (f : ℕ → List ℕ) (l : List ℕ) (k : ℕ) → join (map f (l ++ k ∷ [])) ≡ join (map f l) ++ f k
-join-more f [] k = append-nil (f k)
-join-more f (x ∷ l) k = rw (join-more f l k, append-assoc)
-
 module _ (d : Directory) where
   pub texts-none : entryTexts d 0 ≡ []
   unfolding entryTexts
@@ -32,7 +27,7 @@ module _ (d : Directory) where
 
   pub texts-more : (n : ℕ) → entryTexts d (n + 1) ≡ entryTexts d n ++ entryTextAt d n
   unfolding entryTexts
-  texts-more n = ap (λ (l : List ℕ). join (map (entryTextAt d) l)) (upto-one-more n) ∙ join-more (entryTextAt d) (upto 0 n) n
+  texts-more n = join-one-more (entryTextAt d) n
 
   -- the line of what is read of entry i
   pub read-line : (i : ℕ) (z : ℤ) → z ≡ getD (d .«record_sizes») i (pos 0)

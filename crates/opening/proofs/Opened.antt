@@ -2,7 +2,7 @@
 -- Assumes nothing.
 use Prim.Native.Nat.{ℕ, _*_, _-_, _≤_, min}
 use mathlib.Core.List.{List}
-use mathlib.Core.Path.{_≡_, sym, ap, _∙_, subst}
+use mathlib.Core.Path.{_≡_, refl, sym, ap, _∙_, subst}
 use native.Mathlib.Omega.{arith}
 use lib.ListN.{length}
 use Rattle.layout.specs.Answer.{accepted, refused, _orElse_}
@@ -63,7 +63,7 @@ module _ (b : List ℕ) (n : ℕ) (header : HeaderCheck) (checked : HeaderChecke
 
 -- ---- rules 9 to 14
 
-module _ (b : List ℕ) (n : ℕ) (front : HeaderCheck) (fronted : Fronted b n front) (reading : Reading) (offsets sizes : List ℕ) (read : SetsRead (directory b) reading offsets sizes) where
+module _ (b : List ℕ) (n : ℕ) (front : HeaderCheck) (fronted : Fronted b n front) (reading : Reading) (offsets sizes : List ℕ) (sets : SetsRead (directory b) reading offsets sizes) where
   text : textRules b n ≡ accepted
   unfolding frontRules
   text = orElse-accepts (rules1to6 b n) (textRules b n) .0 (fronted .rules) .1
@@ -77,7 +77,7 @@ module _ (b : List ℕ) (n : ℕ) (front : HeaderCheck) (fronted : Fronted b n f
   unfolding setRules
   places-last u good t v placed =
       let numbers = told-accepted u (numberRules b n) good t in
-      places-are b (front .«headers_end») (front .entries) (fronted .headers) n text reading (read .counted) numbers offsets sizes (read .starts) (read .extents) v placed
+      places-are b (front .«headers_end») (front .entries) (fronted .headers) n text reading (sets .read .counted) numbers offsets sizes (sets .read .held) (sets .extents) v placed
       ∙ sym (rw numbers)
 
 -- ---- rules 1 to 14
@@ -89,7 +89,7 @@ module _ (b : List ℕ) (n : ℕ) where
 
   stops : (r : Refusal) (x : Opening) → x ≡ closed r → headerRules b n ≡ refused (r .number) (r .place) (r .entry) → Opened b n x
   unfolding verdictIs
-  stops r x q h = rw q (record { judged = sym h; begin = λ e. absurd (accepted≢refused (sym e ∙ h)); held = λ e. absurd (accepted≢refused (sym e ∙ h)) })
+  stops r x q h = rw q (record { judged = sym h; begin = λ e. absurd (accepted≢refused (sym e ∙ h)); held = λ e. absurd (accepted≢refused (sym e ∙ h)); nothing = λ e. (refl, refl) })
 
   module _ (front : HeaderCheck) (checked : FrontChecked b n front) where
     pub front-refused : (r : Refusal) (x : Opening) → x ≡ closed r → front .verdict ≡ Refused r → Opened b n x
@@ -112,7 +112,7 @@ module _ (b : List ℕ) (n : ℕ) where
         held-are = held ∙ ap heldSets entries-are
 
         pub sets-read : SetsRead (directory b) reading (sets .offsets) (sets .sizes)
-        sets-read = record { counted = of-directory; starts = ap (λ (s : Sets). s .offsets) held-are; extents = ap (λ (s : Sets). s .sizes) held-are }
+        sets-read = record { read = record { counted = of-directory; held = ap (λ (s : Sets). s .offsets) held-are }; extents = ap (λ (s : Sets). s .sizes) held-are }
 
         module _ (v : Verdict) (by-sets : verdictIs v ≡ setRules b n) where
           pub sets-refused : (r : Refusal) (x : Opening) → x ≡ closed r → v ≡ Refused r → Opened b n x
@@ -121,6 +121,9 @@ module _ (b : List ℕ) (n : ℕ) where
           module _ (fine : v ≡ Accepted) where
             set-rules : setRules b n ≡ accepted
             set-rules = told-accepted v (setRules b n) fine by-sets
+
+            headers-hold : headerRules b n ≡ accepted
+            headers-hold = headers-split ∙ rw (fronted .rules, set-rules)
 
             are : sets ≡ setsOf (directory b)
             unfolding setRules
@@ -132,9 +135,10 @@ module _ (b : List ℕ) (n : ℕ) where
             pub all-passed : (answer : Sets) → answer ≡ sets → Opened b n (record { verdict = Accepted; dsds = front .«headers_end» - 280 * front .entries; sets = answer })
             unfolding verdictIs
             all-passed answer c = record {
-              judged = sym (headers-split ∙ rw (fronted .rules, set-rules));
+              judged = sym headers-hold;
               begin = λ e. dsds-of (fronted .headers) .begin;
               held = λ e. c ∙ are;
+              nothing = λ f. absurd (f headers-hold);
             }
 
 -- ---- and rules 15 and 16

@@ -11,7 +11,7 @@ use Rattle.layout.specs.declared.Refusal.{Refusal}
 use Rattle.layout.specs.declared.Verdict.the-variants as verdict-cases
 use Rattle.header.specs.declared.HeaderCheck.{HeaderCheck}
 use Rattle.directory.specs.Numbers.{setsOf, noSets, heldSets}
-use Rattle.directory.specs.Checks.{Headers, Counted, textRules, numberRules, placeRules}
+use Rattle.directory.specs.Checks.{Headers, ReadFrom, textRules, numberRules, placeRules}
 use Rattle.directory.specs.declared.Reading.{Reading}
 use Rattle.opening.specs.declared.Opening.{Opening}
 
@@ -42,16 +42,16 @@ pub record FrontChecked (b : List ℕ) (n : ℕ) (r : HeaderCheck) : Type 0 wher
 
 -- what a reading of these entries counts, and the offsets and sizes that it holds
 pub record SetsRead (ds : List Entry) (r : Reading) (offsets sizes : List ℕ) : Type 0 where
-  pub counted : Counted ds r
-  pub starts : offsets ≡ heldSets ds .offsets
+  pub read : ReadFrom ds r offsets
   pub extents : sizes ≡ heldSets ds .sizes
 
 -- a refusal, and nothing beside it
 abbrev pub closed : Refusal → Opening
 closed r = record { verdict = verdict-cases.Refused r; dsds = 0; sets = noSets }
 
--- the answer of rules 1 to 14; where it accepts, where the DSDs begin and the numbers of the directory
+-- the answer of rules 1 to 14; where it accepts, where the DSDs begin and the numbers of the directory; beside a refusal nothing
 pub record Opened (b : List ℕ) (n : ℕ) (r : Opening) : Type 0 where
   pub judged : verdictIs (r .verdict) ≡ headerRules b n
   pub begin : headerRules b n ≡ accepted → r .dsds ≡ dsdsAt b
   pub held : headerRules b n ≡ accepted → r .sets ≡ setsOf (directory b)
+  pub nothing : (headerRules b n ≡ accepted → ⊥) → (r .dsds ≡ 0) × (r .sets ≡ noSets)

@@ -3,7 +3,7 @@
 use Prim.Native.Nat.{ℕ, _<_}
 use mathlib.Core.Bool.{Bool, true, false, cond, _&&_, not}
 use mathlib.Core.List.{List}
-use mathlib.Core.Path.{_≡_, refl, sym, _∙_}
+use mathlib.Core.Path.{_≡_, refl, sym, _∙_, ap}
 use native.Mathlib.Omega.{arith}
 use native.Mathlib.Nat.{zero-add}
 use lib.Dec.{leb, eqb}
@@ -15,7 +15,7 @@ use Rattle.layout.specs.Entries.{Entry, at, start, extent, kindOf, isVariable, 
 use Rattle.layout.specs.States.{isStatesAt, statesEntry, ofKind}
 use Rattle.layout.specs.Rules.{isVariableAt, isFilled, rule16At, rule16}
 use Rattle.layout.specs.Answers.{countOf}
-use Rattle.layout.proofs.Laws.{some-same, count-same, find-same, some-found, first-found}
+use Rattle.layout.proofs.Laws.{some-same, count-same, find-same, some-found, first-found, not-not}
 use Rattle.layout.proofs.Tests.{variable-T, variable-kind}
 use Rattle.layout.proofs.Padded.{padded-at}
 use Rattle.dsd.specs.Held.{roleOf}
@@ -122,11 +122,7 @@ module _ (ds : List Entry) (t : Tally) where
           → where′ v (need (eqb (ofKind (t .counts) (kindOf e)) (e .count .magnitude) && eqb (ofKind (t .totals) (kindOf e)) (extent e)) 16 (start e) i)
           ≡ need (not (v && not (eqb (ofKind (t .counts) (roleOf e)) (e .count .magnitude) && eqb (ofKind (t .totals) (roleOf e)) (extent e)))) 16 (start e) i
       go false h = refl
-      go true h = rw (role-kind e h) (twice (eqb (ofKind (t .counts) (kindOf e)) (e .count .magnitude) && eqb (ofKind (t .totals) (kindOf e)) (extent e)))
-        where
-          twice : (x : Bool) → need x 16 (start e) i ≡ need (not (not x)) 16 (start e) i
-          twice true = refl
-          twice false = refl
+      go true h = rw (role-kind e h) (ap (λ (x : Bool). need x 16 (start e) i) (sym (not-not (eqb (ofKind (t .counts) (kindOf e)) (e .count .magnitude) && eqb (ofKind (t .totals) (kindOf e)) (extent e)))))
 
   pub rule16-by : rule16 ds (tallyFrom t) ≡ rule16By (setsOf ds) (t .counts) (t .totals)
   unfolding rule16 rule16By setsOf

@@ -3,19 +3,15 @@
 use Prim.Native.Nat.{ℕ, _≤_}
 use mathlib.Core.Bool.{Bool, true, false, not}
 use mathlib.Core.List.{List}
-use mathlib.Core.Path.{_≡_, refl, _∙_, subst}
+use mathlib.Core.Path.{_≡_, _∙_, subst, sym}
 use lib.Dec.{T, leb, eqb, leb→le}
 use lib.ListN.{getD}
 use borrow.Author.Tests.{eq-eqb, ne-eqb, eqb-true, not-false}
 use Rattle.layout.specs.Bytes.{byteAt}
 use Rattle.layout.specs.Text.{digit, fits}
-use Rattle.layout.proofs.Laws.{and-T}
+use Rattle.layout.proofs.Laws.{and-T, not-not}
 use Rattle.text.specs.Blanks.{notBlank}
 use Rattle.text.specs.Runs.{fails}
-
-not-not : (u : Bool) → u ≡ not (not u)
-not-not true = refl
-not-not false = refl
 
 module _ (b : List ℕ) (i : ℕ) where
   pub is-blank : getD b i 0 ≡ 32 → notBlank b i ≡ false
@@ -32,13 +28,13 @@ module _ (b : List ℕ) (i : ℕ) where
 
   pub blank-test : eqb (getD b i 0) 32 ≡ not (notBlank b i)
   unfolding notBlank byteAt
-  blank-test = not-not (eqb (getD b i 0) 32)
+  blank-test = sym (not-not (eqb (getD b i 0) 32))
 
   -- a class t, of whose test the code has r
   module _ (t : ℕ → Bool) (r : Bool) (e : r ≡ t (getD b i 0)) where
     pub class-test : r ≡ not (fails t b i)
     unfolding fails byteAt
-    class-test = e ∙ not-not (t (getD b i 0))
+    class-test = e ∙ sym (not-not (t (getD b i 0)))
 
     pub passing : r ≡ true → fails t b i ≡ false
     unfolding fails byteAt

@@ -3,7 +3,8 @@
 use borrow.Author.Tests.{eq-eqb, ne-eqb}
 use mathlib.Core.Path.{sym}
 use Rattle.dsd.specs.Held.{numberFrom}
-use Rattle.dsd.proofs.Numbers.{from-zero, not-not}
+use Rattle.layout.proofs.Laws.{not-not}
+use Rattle.dsd.proofs.Numbers.{from-zero}
 use Rattle.dsd.proofs.is_negative.Statement.{statement}
 use Rattle.dsd.proofs.is_negative.Tie as tie
 

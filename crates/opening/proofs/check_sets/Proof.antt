@@ -14,7 +14,7 @@ sub-dsds : tie.Need-sub-dsds
 sub-dsds c = omega (arith, c .before .pre .0 .headers .room)
 
 check-numbers-requires : tie.Need-check-numbers-requires
-check-numbers-requires c κs = let pre = c .before .pre in (dsds-of (pre .0 .headers), record { counted = pre .1 .counted; held = pre .1 .starts })
+check-numbers-requires c κs = let pre = c .before .pre in (dsds-of (pre .0 .headers), pre .1 .read)
 
 enum-told : tie.Need-enum-told
 enum-told c = search needs
