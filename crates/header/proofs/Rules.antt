@@ -1,13 +1,14 @@
 -- Rules 1 to 6: what each test of the code says of the rule that it belongs to, their order, and what an accepted header gives.
 -- Assumes nothing.
 use Prim.Native.Nat.{ℕ, zero, suc, _+_, _*_, _≤_, _<_}
-use mathlib.Core.Bool.{Bool, true, false, cond}
+use mathlib.Core.Bool.{Bool, true, false, cond, _&&_}
 use mathlib.Core.List.{List}
-use mathlib.Core.Path.{_≡_, refl, sym, ap, _∙_}
+use mathlib.Core.Path.{_≡_, refl, sym, ap, _∙_, subst}
 use native.Mathlib.Omega.{arith}
-use lib.Dec.{T, leb}
+use lib.Dec.{T, leb, eqb}
 use lib.IntN.{ℤ, pos, negsuc, negℤ}
-use lib.Signed.{mag, ltZ, leZ}
+use lib.ListN.{getD}
+use lib.Signed.{mag}
 use mir.Syntax.{w64}
 use mir.Val.{toZ, ofZ}
 use borrow.Author.Tests.{ltb-true, lt-ltb, le-leb, lt-leb, eq-eqb, ne-eqb}
@@ -25,11 +26,12 @@ use Rattle.layout.specs.declared.Verdict.the-variants.{Refused}
 use Rattle.layout.proofs.Laws.{and-T, leb-T, accepted≢refused, need-accepts, orElse-accepts, orElse-assoc}
 use Rattle.layout.proofs.Replies.{told-refused}
 use Rattle.text.specs.Numbers.{numberIn, wholeIn}
+use Rattle.text.specs.declared.Number.{Number as HeldNumber}
 use Rattle.text.proofs.Laws.{magnitude-test, whole-true}
-use Rattle.header.specs.Checks.{lengthRules, totalRules, HeadersFit}
+use Rattle.header.specs.Checks.{lengthRules, totalRules, HeadersFit, alone, CheckedBy, HeaderChecked}
 use Rattle.header.specs.declared.HeaderCheck.{HeaderCheck}
 use Rattle.values.proofs.Places.{total-at, sph-at, dsds-at, dsd-size-at, headers-end-at, entries-at}
-use Rattle.values.proofs.Values.{kept}
+use Rattle.values.proofs.Values.{kept, held-fits, held-true}
 
 -- ---- an i64 beside a number that is not negative
 
@@ -52,36 +54,31 @@ eqZ-other (negsuc m) n h = refl
 
 -- ---- 0 to a number
 
-below-zero : (most v : ℤ) → ltZ v (pos 0) ≡ true → false ≡ withinZ (pos 0) most v
-below-zero most (pos m) h = let l : m < 0 = ltb-true m 0 h in absurd (omega arith)
-below-zero most (negsuc m) h = refl
+module _ (most : ℕ) (m : HeldNumber) where
+  pub within-minus : m .minus ≡ true → eqb (m .magnitude) 0 ≡ withinZ (pos 0) (pos most) (wholeIn m)
+  unfolding wholeIn
+  within-minus h = rw h (go (m .magnitude))
+    where
+      go : (k : ℕ) → eqb k 0 ≡ withinZ (pos 0) (pos most) (negℤ (pos k))
+      go zero = sym (le-leb 0 most (omega arith))
+      go (suc k) = ne-eqb (suc k) 0 (λ e. absurd (omega (arith, e)))
 
-from-zero : (most v : ℤ) → ltZ v (pos 0) ≡ false → leZ v most ≡ withinZ (pos 0) most v
-from-zero most (pos m) h = rw (le-leb 0 m (omega arith))
-from-zero most (negsuc m) h = let z : _≡_ {A = ℕ} 0 1 = cc in absurd (omega arith)
+  pub within-plus : m .minus ≡ false → leb (m .magnitude) most ≡ withinZ (pos 0) (pos most) (wholeIn m)
+  unfolding wholeIn
+  within-plus h = rw (h, le-leb 0 (m .magnitude) (omega arith))
 
--- the same of an i64 `r` that is the value v
-module _ (most r v : ℤ) (fits : mag r < 9223372036854775808) (e : r ≡ v) where
-  pub is-below : ltZ (toZ w64 (ofZ w64 r)) (pos 0) ≡ true → false ≡ withinZ (pos 0) most v
-  is-below h = below-zero most v (sym (ap (λ (z : ℤ). ltZ z (pos 0)) (kept {z = r} fits ∙ e)) ∙ h)
+within-most : (t : Bool) (k most : ℕ) → T (withinZ (pos 0) (pos most) (cond t (negℤ (pos k)) (pos k))) → k ≤ most
+within-most true zero most h = omega arith
+within-most true (suc k) most h = absurd h
+within-most false k most h = leb-T k most .0 (and-T (leb 0 k) (leb k most) .0 h .1)
 
-  pub is-from : mag most < 9223372036854775808 → ltZ (toZ w64 (ofZ w64 r)) (pos 0) ≡ false → leZ (toZ w64 (ofZ w64 r)) (toZ w64 (ofZ w64 most)) ≡ withinZ (pos 0) most v
-  is-from l h =
-      ap (λ (z : ℤ). leZ z (toZ w64 (ofZ w64 most))) (kept {z = r} fits ∙ e)
-      ∙ ap (λ (z : ℤ). leZ v z) (kept {z = most} l)
-      ∙ from-zero most v (sym (ap (λ (z : ℤ). ltZ z (pos 0)) (kept {z = r} fits ∙ e)) ∙ h)
+pub held-most : (m : HeldNumber) (most : ℕ) → withinZ (pos 0) (pos most) (wholeIn m) ≡ true → m .magnitude ≤ most
+unfolding wholeIn
+held-most m most e = within-most (m .minus) (m .magnitude) most (rw e tt)
 
-within-most : (m : Number) (most : ℕ) → T (withinZ (pos 0) (pos most) (whole m)) → m .magnitude ≤ most
+number-most : (m : Number) (most : ℕ) → T (withinZ (pos 0) (pos most) (whole m)) → m .magnitude ≤ most
 unfolding whole
-within-most m most h = go (m .minus) (m .magnitude) h
-  where
-    go : (t : Bool) (k : ℕ) → T (withinZ (pos 0) (pos most) (cond t (negℤ (pos k)) (pos k))) → k ≤ most
-    go true zero h = omega arith
-    go true (suc k) h = absurd h
-    go false k h = leb-T k most .0 (and-T (leb 0 k) (leb k most) .0 h .1)
-
-pub within-magnitude : (m : Number) (most : ℕ) → withinZ (pos 0) (pos most) (whole m) ≡ true → m .magnitude ≤ most
-within-magnitude m most e = within-most m most (rw e tt)
+number-most m most h = within-most (m .minus) (m .magnitude) most h
 
 -- ---- rules 4 and 5
 
@@ -103,15 +100,26 @@ module _ (b : List ℕ) (n : ℕ) where
 
 -- ---- rule 6
 
+-- a sign and ten digits are held as they are
+module _ (b : List ℕ) (bytes : (k : ℕ) → getD b k 0 < 256) (at : ℕ) (m : HeldNumber) (e : m ≡ numberIn b at 11) where
+  pub ten-held : m .magnitude ≡ numberOf (part b at 11) .magnitude
+  ten-held = ap (λ (x : HeldNumber). x .magnitude) e ∙ held-true b at 11 bytes (omega arith)
+
+  ten-whole : wholeIn m ≡ whole (numberOf (part b at 11))
+  ten-whole = ap wholeIn e ∙ whole-true b at 11 (held-fits b at 11 bytes (omega arith))
+
+module _ (b : List ℕ) (bytes : (k : ℕ) → getD b k 0 < 256) (sph-size : HeldNumber) (e : sph-size ≡ numberIn b 1113 11) where
+  pub sph-tested : (n : ℕ) (r : Bool) → r ≡ (withinZ (pos 0) (pos 49152) (wholeIn sph-size) && leb (1247 + sph-size .magnitude) n) → sphFits b n ≡ r
+  unfolding sphFits
+  sph-tested n r h = sym (h ∙ rw (ten-whole b bytes 1113 sph-size e, ten-held b bytes 1113 sph-size e, sph-at b, headers-end-at b))
+
+  pub dsds-tested : (num-dsd : HeldNumber) → num-dsd ≡ numberIn b 1140 11
+      → (r : Bool) → r ≡ (withinZ (pos 0) (pos 128) (wholeIn num-dsd) && leb (280 * num-dsd .magnitude) (sph-size .magnitude)) → dsdsFit b ≡ r
+  unfolding dsdsFit
+  dsds-tested num-dsd k r h =
+      sym (h ∙ rw (ten-whole b bytes 1140 num-dsd k, ten-held b bytes 1140 num-dsd k, ten-held b bytes 1113 sph-size e, dsds-at b, entries-at b, sph-at b))
+
 module _ (b : List ℕ) (n : ℕ) where
-  pub sph-outside : withinZ (pos 0) (pos 49152) (whole (numberOf (part b 1113 11))) ≡ false → false ≡ sphFits b n
-  unfolding sphFits
-  sph-outside h = rw (sph-at b, h)
-
-  pub sph-inside : withinZ (pos 0) (pos 49152) (whole (numberOf (part b 1113 11))) ≡ true → leb (1247 + numberOf (part b 1113 11) .magnitude) n ≡ sphFits b n
-  unfolding sphFits
-  sph-inside h = rw (sph-at b, headers-end-at b, h)
-
   pub sph-refused : sphFits b n ≡ false → refused 6 1113 128 ≡ rule6 b n
   unfolding rule6
   sph-refused h = rw h
@@ -128,23 +136,18 @@ module _ (b : List ℕ) (n : ℕ) where
   unfolding rule6
   sizes-good h k l = rw (h, k, dsd-size-at b, eqZ-same (whole (numberOf (part b 1161 11))) 280 l)
 
-module _ (b : List ℕ) where
-  pub dsds-outside : withinZ (pos 0) (pos 128) (whole (numberOf (part b 1140 11))) ≡ false → false ≡ dsdsFit b
-  unfolding dsdsFit
-  dsds-outside h = rw (dsds-at b, h)
-
-  pub dsds-inside : withinZ (pos 0) (pos 128) (whole (numberOf (part b 1140 11))) ≡ true
-      → leb (280 * numberOf (part b 1140 11) .magnitude) (numberOf (part b 1113 11) .magnitude) ≡ dsdsFit b
-  unfolding dsdsFit
-  dsds-inside h = rw (dsds-at b, entries-at b, sph-at b, h)
-
 -- ---- their order
 
 stops : (v : Verdict) (r : Refusal) (x y : Answer) → v ≡ Refused r → verdictIs v ≡ x → verdictIs v ≡ x orElse y
 stops v r x y told e = e ∙ rw (told-refused v r x told e)
 
-pub never : (v : Verdict) (r : Refusal) (x : Answer) → v ≡ Refused r → verdictIs v ≡ x → x ≡ accepted → ⊥
-never v r x told e h = accepted≢refused (sym h ∙ told-refused v r x told e)
+-- a refusal, and nothing beside it
+pub alone-refused : (rules : Answer) (b : List ℕ) (n m p e : ℕ) (v : Verdict) (x : HeaderCheck) → x ≡ alone v → verdictIs v ≡ refused m p e → refused m p e ≡ rules → CheckedBy rules b n x
+alone-refused rules b n m p e v x q h k =
+    rw q (record { verdict-is = h ∙ k; headers = λ good. absurd (accepted≢refused (sym good ∙ sym k)); nothing = λ bad. (refl, refl) })
+
+pub alone-told : (rules : Answer) (b : List ℕ) (n : ℕ) (v : Verdict) (r : Refusal) (x : HeaderCheck) → x ≡ alone v → v ≡ Refused r → verdictIs v ≡ rules → CheckedBy rules b n x
+alone-told rules b n v r x q told h = let k = told-refused v r rules told h in alone-refused rules b n (r .number) (r .place) (r .entry) v x q (h ∙ k) (sym k)
 
 module _ (b : List ℕ) (n : ℕ) where
   in-groups : rules1to6 b n ≡ (lengthRules n orElse laidOut 3 128 0 (layout mph) b orElse totalRules b n orElse rule6 b n)
@@ -162,8 +165,8 @@ module _ (b : List ℕ) (n : ℕ) where
       pub by-total : (v : Verdict) (r : Refusal) → v ≡ Refused r → verdictIs v ≡ totalRules b n → verdictIs v ≡ rules1to6 b n
       by-total v r told e = stops v r _ (rule6 b n) told e ∙ sym (in-groups ∙ rw (one, three))
 
-      pub by-sizes : (v : Verdict) → totalRules b n ≡ accepted → verdictIs v ≡ rule6 b n → verdictIs v ≡ rules1to6 b n
-      by-sizes v four e = e ∙ sym (in-groups ∙ rw (one, three, four))
+      pub by-sizes : (r : HeaderCheck) → totalRules b n ≡ accepted → CheckedBy (rule6 b n) b n r → HeaderChecked b n r
+      by-sizes r four = subst (λ (rules : Answer). CheckedBy rules b n r) (sym (in-groups ∙ rw (one, three, four)))
 
 -- ---- what an accepted header gives
 
@@ -174,44 +177,26 @@ length-good n h =
     (leb-T 1247 n .0 (need-accepts (leb 1247 n) 1 n 128 .0 (both .0)), leb-T n 2147483647 .0 (need-accepts (leb n 2147483647) 2 0 128 .0 (both .1)))
 
 module _ (b : List ℕ) (n : ℕ) where
-  sizes-tests : rule6 b n ≡ accepted → T (sphFits b n) × T (dsdsFit b)
-  unfolding rule6
-  sizes-tests h =
-      let both = orElse-accepts (need (sphFits b n) 6 1113 128) (need (dsdsFit b) 6 1140 128 orElse need (eqZ (whole (dsdSize b)) (pos 280)) 6 1161 128) .0 h in
-      let rest = orElse-accepts (need (dsdsFit b) 6 1140 128) (need (eqZ (whole (dsdSize b)) (pos 280)) 6 1161 128) .0 (both .1) in
-      (need-accepts (sphFits b n) 6 1113 128 .0 (both .0), need-accepts (dsdsFit b) 6 1140 128 .0 (rest .0))
-
   sph-good : T (sphFits b n) → (sphSize b .magnitude ≤ 49152) × (headersEnd b ≤ n)
   unfolding sphFits
   sph-good h =
       let both = and-T (withinZ (pos 0) (pos 49152) (whole (sphSize b))) (leb (headersEnd b) n) .0 h in
-      (within-most (sphSize b) 49152 (both .0), leb-T (headersEnd b) n .0 (both .1))
+      (number-most (sphSize b) 49152 (both .0), leb-T (headersEnd b) n .0 (both .1))
 
   dsds-good : T (dsdsFit b) → (entries b ≤ 128) × (280 * entries b ≤ sphSize b .magnitude)
   unfolding dsdsFit entries
   dsds-good h =
       let both = and-T (withinZ (pos 0) (pos 128) (whole (numDsd b))) (leb (280 * numDsd b .magnitude) (sphSize b .magnitude)) .0 h in
-      (within-most (numDsd b) 128 (both .0), leb-T (280 * numDsd b .magnitude) (sphSize b .magnitude) .0 (both .1))
+      (number-most (numDsd b) 128 (both .0), leb-T (280 * numDsd b .magnitude) (sphSize b .magnitude) .0 (both .1))
 
-  groups-good : rules1to6 b n ≡ accepted → (lengthRules n ≡ accepted) × (totalRules b n ≡ accepted) × (rule6 b n ≡ accepted)
-  groups-good h =
-      let one = orElse-accepts (lengthRules n) (laidOut 3 128 0 (layout mph) b orElse totalRules b n orElse rule6 b n) .0 (sym (in-groups b n) ∙ h) in
-      let three = orElse-accepts (laidOut 3 128 0 (layout mph) b) (totalRules b n orElse rule6 b n) .0 (one .1) in
-      let four = orElse-accepts (totalRules b n) (rule6 b n) .0 (three .1) in
-      (one .0, four .0, four .1)
+  pub sph-most : sphFits b n ≡ true → numberOf (part b 1113 11) .magnitude ≤ 49152
+  sph-most h = rw (← sph-at b) (sph-good (rw h tt) .0)
 
-  pub long-enough : rules1to6 b n ≡ accepted → 1247 ≤ n
-  long-enough h = length-good n (groups-good h .0) .0
-
-  pub sph-most : rules1to6 b n ≡ accepted → numberOf (part b 1113 11) .magnitude ≤ 49152
-  sph-most h = rw (← sph-at b) (sph-good (sizes-tests (groups-good h .2) .0) .0)
-
-  pub headers-fit : rules1to6 b n ≡ accepted → (r : HeaderCheck) → r .«headers_end» ≡ headersEnd b → r .entries ≡ entries b → HeadersFit b n r
+  pub headers-fit : sphFits b n ≡ true → dsdsFit b ≡ true → (r : HeaderCheck) → r .«headers_end» ≡ headersEnd b → r .entries ≡ entries b → HeadersFit b n r
   unfolding headersEnd
-  headers-fit h r e k =
-      let tests = sizes-tests (groups-good h .2) in
-      let sph = sph-good (tests .0) in
-      let dsds = dsds-good (tests .1) in
+  headers-fit h l r e k =
+      let sph = sph-good (rw h tt) in
+      let dsds = dsds-good (rw l tt) in
       record {
         end-is = e;
         entries-are = k;

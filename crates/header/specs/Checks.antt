@@ -7,6 +7,7 @@ use Rattle.layout.specs.Answer.{Answer, accepted, _orElse_}
 use Rattle.layout.specs.Entries.{headersEnd, entries}
 use Rattle.layout.specs.Rules.{rule1, rule2, rule4, rule5, rules1to6}
 use Rattle.layout.specs.Answers.{verdictIs}
+use Rattle.layout.specs.declared.Verdict.{Verdict}
 use Rattle.header.specs.declared.HeaderCheck.{HeaderCheck}
 
 -- rules 1 and 2 look at no byte
@@ -25,8 +26,15 @@ pub record HeadersFit (b : List ℕ) (n : ℕ) (r : HeaderCheck) : Type 0 where
   pub dsds-fit : 1247 + 280 * r .entries ≤ r .«headers_end»
   pub end-most : r .«headers_end» ≤ 50399
 
--- the answer to rules 1 to 6; beside a refusal there is nothing else
-pub record HeaderChecked (b : List ℕ) (n : ℕ) (r : HeaderCheck) : Type 0 where
-  pub verdict-is : verdictIs (r .verdict) ≡ rules1to6 b n
-  pub headers : rules1to6 b n ≡ accepted → HeadersFit b n r
-  pub nothing : (rules1to6 b n ≡ accepted → ⊥) → (r .«headers_end» ≡ 0) × (r .entries ≡ 0)
+-- a verdict, and nothing beside it
+abbrev pub alone : Verdict → HeaderCheck
+alone v = record { verdict = v; «headers_end» = 0; entries = 0 }
+
+-- the answer to these rules, rule 6 the last of them; beside a refusal there is nothing else
+pub record CheckedBy (rules : Answer) (b : List ℕ) (n : ℕ) (r : HeaderCheck) : Type 0 where
+  pub verdict-is : verdictIs (r .verdict) ≡ rules
+  pub headers : rules ≡ accepted → HeadersFit b n r
+  pub nothing : (rules ≡ accepted → ⊥) → (r .«headers_end» ≡ 0) × (r .entries ≡ 0)
+
+abbrev pub HeaderChecked : List ℕ → ℕ → HeaderCheck → Type 0
+HeaderChecked b n r = CheckedBy (rules1to6 b n) b n r

@@ -1,18 +1,21 @@
 // The main header: rules 1 to 6 of document 01.
+ghost use mathlib.Core.Bool.{_&&_};
 ghost use mathlib.Core.Path.{_≡_};
-ghost use Prim.Native.Nat.{_+_, _*_, _<_, _≤_};
+ghost use Prim.Native.Nat.{_+_, _*_, _≤_};
+ghost use lib.Dec.{leb};
 ghost use lib.IntN.{pos};
 ghost use lib.ListN.{length};
-ghost use Rattle.layout.specs.Bytes.{part};
-ghost use Rattle.layout.specs.Text.{numberOf, whole, layout};
-ghost use Rattle.layout.specs.Lines.{sizeOfMph, mph};
+ghost use Rattle.layout.specs.Text.{layout};
+ghost use Rattle.layout.specs.Lines.{sizeOfMph, sizeOfDsd, mph};
 ghost use Rattle.layout.specs.Search.{laidOut};
 ghost use Rattle.layout.specs.Entries.{withinZ};
-ghost use Rattle.layout.specs.Rules.{sphFits, dsdsFit, rule6, rules1to6};
+ghost use Rattle.layout.specs.Rules.{rule6};
 ghost use Rattle.layout.specs.Answers.{verdictIs};
-ghost use Rattle.header.specs.Checks.{lengthRules, totalRules, HeaderChecked};
+ghost use Rattle.text.specs.Numbers.{wholeIn};
+ghost use Rattle.header.specs.Checks.{lengthRules, totalRules, alone, CheckedBy, HeaderChecked};
 use dsd::Entry;
 use layout::Verdict;
+use text::Number;
 use values::MainHeader;
 
 // Rules 1 and 2, which look at no byte.
@@ -55,85 +58,34 @@ fn total_rules(p: &[u8], length: u64) -> Verdict
     Verdict::Accepted
 }
 
-// The magnitude of a number of a sign and ten digits.
-fn magnitude_at(p: &[u8], at: usize) -> u64
-    requires { ⌜ at + 11 ≤ length (now p) ⌝ }
-    ensures { λ r. ⌜ r ≡ numberOf (part (now (p .entry)) at 11) .magnitude ⌝ }
+// A number is 0 to `most`; minus zero is zero.
+fn is_within(number: Number, most: u64) -> bool
+    ensures { λ r. ⌜ r ≡ withinZ (pos 0) (pos most) (wholeIn number) ⌝ }
 {
-    let number = text::number_at(p, at, 11);
-    number.magnitude
-}
-
-// Such a number is 0 to `most`; minus zero is zero.
-fn is_within(p: &[u8], at: usize, most: i64) -> bool
-    requires { ⌜ at + 11 ≤ length (now p) ⌝ }
-    ensures { λ r. ⌜ r ≡ withinZ (pos 0) most (whole (numberOf (part (now (p .entry)) at 11))) ⌝ }
-{
-    let value = values::whole_at(p, at, 11);
-    if value < 0 {
-        return false;
+    if number.minus {
+        return number.magnitude == 0;
     }
-    value <= most
+    number.magnitude <= most
 }
 
 // SPH_SIZE is 0 to 49,152, and the headers do not pass the end.
-fn sph_fits(p: &[u8], length: u64) -> bool
-    requires { ⌜ sizeOfMph ≤ lib.ListN.length (now p) ⌝ }
-    ensures { λ r. ⌜ r ≡ sphFits (now (p .entry)) length ⌝ }
+fn sph_fits(sph_size: Number, length: u64) -> bool
+    ensures { λ r. ⌜ r ≡ (withinZ (pos 0) (pos 49152) (wholeIn «sph_size») && leb (sizeOfMph + «sph_size» .magnitude) length) ⌝ }
 {
-    if !is_within(p, 1113, 49152) {
+    if !is_within(sph_size, 49152) {
         return false;
     }
-    MainHeader::SIZE as u64 + magnitude_at(p, 1113) <= length
+    MainHeader::SIZE as u64 + sph_size.magnitude <= length
 }
 
 // NUM_DSD is 0 to 128, and its DSDs do not exceed the SPH.
-fn dsds_fit(p: &[u8]) -> bool
-    requires { ⌜ sizeOfMph ≤ length (now p) ⌝ }
-    ensures { λ r. ⌜ r ≡ dsdsFit (now (p .entry)) ⌝ }
+fn dsds_fit(num_dsd: Number, sph_size: Number) -> bool
+    ensures { λ r. ⌜ r ≡ (withinZ (pos 0) (pos 128) (wholeIn «num_dsd») && leb (sizeOfDsd * «num_dsd» .magnitude) («sph_size» .magnitude)) ⌝ }
 {
-    if !is_within(p, 1140, 128) {
+    if !is_within(num_dsd, 128) {
         return false;
     }
-    Entry::SIZE as u64 * magnitude_at(p, 1140) <= magnitude_at(p, 1113)
-}
-
-// Rule 6.
-fn size_rules(p: &[u8], length: u64) -> Verdict
-    requires { ⌜ sizeOfMph ≤ lib.ListN.length (now p) ⌝ }
-    ensures { λ r. ⌜ verdictIs r ≡ rule6 (now (p .entry)) length ⌝ }
-{
-    if !sph_fits(p, length) {
-        return Verdict::refuse(6, 1113, 128);
-    }
-    if !dsds_fit(p) {
-        return Verdict::refuse(6, 1140, 128);
-    }
-    let dsd_size = values::whole_at(p, 1161, 11);
-    if dsd_size != Entry::SIZE as i64 {
-        return Verdict::refuse(6, 1161, 128);
-    }
-    Verdict::Accepted
-}
-
-// Rules 1 to 6 in their order: the first that refuses.
-fn header_rules(p: &[u8], length: u64) -> Verdict
-    requires { ⌜ (sizeOfMph ≤ length → sizeOfMph ≤ lib.ListN.length (now p)) ⌝ }
-    ensures { λ r. ⌜ verdictIs r ≡ rules1to6 (now (p .entry)) length ⌝ }
-{
-    let by_length = length_rules(length);
-    if let Verdict::Refused(_) = by_length {
-        return by_length;
-    }
-    let by_layout = layout_rule(p);
-    if let Verdict::Refused(_) = by_layout {
-        return by_layout;
-    }
-    let by_total = total_rules(p, length);
-    if let Verdict::Refused(_) = by_total {
-        return by_total;
-    }
-    size_rules(p, length)
+    Entry::SIZE as u64 * num_dsd.magnitude <= sph_size.magnitude
 }
 
 // What rules 1 to 6 tell, with where the headers end and the number of directory entries; zeros beside a refusal.
@@ -143,22 +95,57 @@ pub struct HeaderCheck {
     pub entries: usize,
 }
 
-// Rules 1 to 6 over the bytes at hand, which are the product or only its headers, and the length of the product.
+impl HeaderCheck {
+    fn alone(verdict: Verdict) -> HeaderCheck
+        ensures { λ r. ⌜ r ≡ alone verdict ⌝ }
+    {
+        HeaderCheck {
+            verdict,
+            headers_end: 0,
+            entries: 0,
+        }
+    }
+}
+
+// Rule 6. Each number is read once.
+fn size_rules(p: &[u8], length: u64) -> HeaderCheck
+    requires { ⌜ sizeOfMph ≤ lib.ListN.length (now p) ⌝ }
+    ensures { λ r. ⌜ CheckedBy (rule6 (now (p .entry)) length) (now (p .entry)) length r ⌝ }
+{
+    let sph_size = text::number_at(p, 1113, 11);
+    if !sph_fits(sph_size, length) {
+        return HeaderCheck::alone(Verdict::refuse(6, 1113, 128));
+    }
+    let num_dsd = text::number_at(p, 1140, 11);
+    if !dsds_fit(num_dsd, sph_size) {
+        return HeaderCheck::alone(Verdict::refuse(6, 1140, 128));
+    }
+    if values::whole_at(p, 1161, 11) != Entry::SIZE as i64 {
+        return HeaderCheck::alone(Verdict::refuse(6, 1161, 128));
+    }
+    HeaderCheck {
+        verdict: Verdict::Accepted,
+        headers_end: MainHeader::SIZE + sph_size.magnitude as usize,
+        entries: num_dsd.magnitude as usize,
+    }
+}
+
+// Rules 1 to 6 in their order, over the bytes at hand, which are the product or only its headers, and the length of the product: the first that refuses.
 pub fn check_header(p: &[u8], length: u64) -> HeaderCheck
     requires { ⌜ (sizeOfMph ≤ length → sizeOfMph ≤ lib.ListN.length (now p)) ⌝ }
     ensures { λ r. ⌜ HeaderChecked (now (p .entry)) length r ⌝ }
 {
-    let verdict = header_rules(p, length);
-    if let Verdict::Refused(_) = verdict {
-        return HeaderCheck {
-            verdict,
-            headers_end: 0,
-            entries: 0,
-        };
+    let by_length = length_rules(length);
+    if let Verdict::Refused(_) = by_length {
+        return HeaderCheck::alone(by_length);
     }
-    HeaderCheck {
-        verdict,
-        headers_end: MainHeader::SIZE + magnitude_at(p, 1113) as usize,
-        entries: magnitude_at(p, 1140) as usize,
+    let by_layout = layout_rule(p);
+    if let Verdict::Refused(_) = by_layout {
+        return HeaderCheck::alone(by_layout);
     }
+    let by_total = total_rules(p, length);
+    if let Verdict::Refused(_) = by_total {
+        return HeaderCheck::alone(by_total);
+    }
+    size_rules(p, length)
 }

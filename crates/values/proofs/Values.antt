@@ -61,7 +61,7 @@ module _ (b : List ℕ) (at width : ℕ) where
   pub number-fits : ((k : ℕ) → getD b k 0 < 256) → (12 < width → numberOf (part b at width) .magnitude ≤ 9223372036854775807) → numberOf (part b at width) .magnitude ≤ 9223372036854775807
   number-fits h long = ⊎-elim (λ l. long l) (λ l. twelve-fit (part b at width) (le-trans part-most l) (part-bytes h)) (lt-or-le 12 width)
 
-  held-fits : ((k : ℕ) → getD b k 0 < 256) → width ≤ 12 → numberIn b at width .magnitude ≤ 9223372036854775807
+  pub held-fits : ((k : ℕ) → getD b k 0 < 256) → width ≤ 12 → numberIn b at width .magnitude ≤ 9223372036854775807
   held-fits h l = magnitude-fits b at width .1 (number-fits h (λ m. absurd (omega arith)))
 
   pub held-true : ((k : ℕ) → getD b k 0 < 256) → width ≤ 12 → numberIn b at width .magnitude ≡ numberOf (part b at width) .magnitude
