@@ -11,13 +11,13 @@ use lib.ListN.{getD}
 use lib.Signed.{mag}
 use mir.Syntax.{w64}
 use mir.Val.{toZ, ofZ}
-use borrow.Author.Tests.{ltb-true, lt-ltb, le-leb, lt-leb, eq-eqb, ne-eqb}
+use borrow.Author.Tests.{lt-ltb, le-leb, lt-leb, eq-eqb, ne-eqb}
 use Rattle.layout.specs.Bytes.{part}
 use Rattle.layout.specs.Text.{Number, numberOf, whole, layout}
 use Rattle.layout.specs.Lines.{mph}
 use Rattle.layout.specs.Answer.{Answer, accepted, refused, need, _orElse_}
 use Rattle.layout.specs.Search.{laidOut}
-use Rattle.layout.specs.Entries.{eqZ, withinZ, sphSize, numDsd, dsdSize, headersEnd, entries}
+use Rattle.layout.specs.Entries.{eqZ, withinZ, sphSize, numDsd, headersEnd, entries}
 use Rattle.layout.specs.Rules.{rule1, rule2, rule3, rule4, rule5, rule6, sphFits, dsdsFit, rules1to6}
 use Rattle.layout.specs.Answers.{verdictIs}
 use Rattle.layout.specs.declared.Refusal.{Refusal}

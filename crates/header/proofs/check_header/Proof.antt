@@ -1,6 +1,5 @@
 -- `header::check_header` meets its contract: the first group that refuses decides, and rule 6 comes last.
 -- Assumes nothing.
-use native.Mathlib.Omega.{arith}
 use borrow.Author.Needs.{needs}
 use Rattle.layout.proofs.Replies.{told-accepted}
 use Rattle.header.proofs.Rules.{alone-told, by-length, by-layout, by-total, by-sizes, length-good}
