@@ -10,19 +10,19 @@ use lib.Dec.{leb, eqb}
 use lib.ListN.{length, getD}
 use borrow.Author.Tests.{le-leb, lt-leb}
 use Rattle.layout.specs.Answer.{need, where′}
-use Rattle.layout.specs.Search.{some, count, find}
+use Rattle.layout.specs.Search.{some, count}
 use Rattle.layout.specs.Entries.{Entry, at, start, extent, kindOf, isVariable, isStates}
 use Rattle.layout.specs.States.{isStatesAt, statesEntry, ofKind}
 use Rattle.layout.specs.Rules.{isVariableAt, isFilled, rule16At, rule16}
 use Rattle.layout.specs.Answers.{countOf}
-use Rattle.layout.proofs.Laws.{some-same, count-same, find-same, some-found, first-found, not-not}
+use Rattle.layout.proofs.Laws.{some-same, count-same, find-same, first-found, not-not}
 use Rattle.layout.proofs.Tests.{variable-T, variable-kind}
 use Rattle.layout.proofs.Padded.{padded-at}
 use Rattle.dsd.specs.Held.{roleOf}
 use Rattle.directory.specs.Numbers.{setsOf}
 use Rattle.states.specs.declared.Tally.{Tally}
 use Rattle.states.specs.States.{tallyFrom}
-use Rattle.states.specs.Roles.{roleWithin, onlyStates, unfilled, unfilledAt, rule16By}
+use Rattle.states.specs.Roles.{hasVariable, roleWithin, onlyStates, unfilled, unfilledAt, rule16By}
 
 -- ---- roles
 
@@ -93,11 +93,9 @@ module _ (ds : List Entry) (i : ℕ) (l : i < length ds) where
   is-states = rw roles-at (states-role (at ds i))
 
 module _ (ds : List Entry) where
-  pub variable-found : some (isVariableAt ds) 0 (length ds) ≡ not (eqb (find (roleWithin (setsOf ds .roles) 1 4) 0 (length ds)) (length ds))
-  variable-found =
-      some-same (isVariableAt ds) (roleWithin (setsOf ds .roles) 1 4) 0 (length ds) (λ k l u. sym (is-variable ds k (omega arith)))
-      ∙ some-found (roleWithin (setsOf ds .roles) 1 4) 0 (length ds)
-      ∙ rw (zero-add (length ds))
+  pub variable-found : some (isVariableAt ds) 0 (length ds) ≡ hasVariable (setsOf ds .roles) (length ds)
+  unfolding hasVariable
+  variable-found = some-same (isVariableAt ds) (roleWithin (setsOf ds .roles) 1 4) 0 (length ds) (λ k l u. sym (is-variable ds k (omega arith)))
 
   -- the only entry that describes states
   pub only-is : onlyStates (setsOf ds .roles) (length ds) ≡ cond (eqb (count (isStatesAt ds) 0 (length ds)) 1) (statesEntry ds) (length ds)

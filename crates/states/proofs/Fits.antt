@@ -1,7 +1,7 @@
 -- Rules 15 and 16 of entries that fit a product: by their arrays, by the states that are looked at, and by capped sums.
 -- Assumes nothing.
 use Prim.Native.Nat.{ℕ, zero, suc, _+_, _*_, _^_, _≤_, _<_}
-use mathlib.Core.Bool.{Bool, true, false, cond, _&&_, not}
+use mathlib.Core.Bool.{Bool, true, false, cond, _&&_}
 use mathlib.Core.List.{List, map}
 use mathlib.Core.Logic.{_⊎_, inl, inr}
 use mathlib.Core.Path.{_≡_, refl, sym, ap, _∙_, subst}
@@ -14,7 +14,7 @@ use lib.ListN.{length, getD}
 use borrow.Author.Tests.{eqb-true, eqb-false, eq-eqb, ne-eqb, lt-ltb, le-ltb}
 use Rattle.layout.specs.Text.{Number, whole}
 use Rattle.layout.specs.Answer.{Answer, accepted, refused, need, where′, _orElse_}
-use Rattle.layout.specs.Search.{some, count, find}
+use Rattle.layout.specs.Search.{some, count}
 use Rattle.layout.specs.Entries.{Entry, eqZ, directory, at, start, extent, nonEmpty, isData, isVariable, isStates, kindOf}
 use Rattle.layout.specs.States.{State, Tally, isStatesAt, statesEntry, stateAt, statesOf, tallyOf, ofKind}
 use Rattle.layout.specs.Rules.{headerRules, stateRules, isVariableAt, statesFit, rule15, isFilled, rule16, rule16At}
@@ -27,7 +27,7 @@ use Rattle.directory.specs.declared.Sets.{Sets}
 use Rattle.states.specs.declared.Tally.{Tally as TallyRead}
 use Rattle.states.specs.declared.StatesSpan.{StatesSpan}
 use Rattle.states.specs.States.{cap, capped, statesFrom, tallyIs, tallyFrom}
-use Rattle.states.specs.Roles.{roleWithin, onlyStates, rule16By, describedBy}
+use Rattle.states.specs.Roles.{hasVariable, onlyStates, rule16By, describedBy}
 use Rattle.states.specs.Laid.{Fitting, Laid, areLookedAt, spanOf}
 use Rattle.states.proofs.Sums.{capped-eqb}
 use Rattle.states.proofs.Laws.{states-of, ofKind-capped}
@@ -259,7 +259,7 @@ module _ (sets : Sets) (ds : List Entry) (n : ℕ) (held : sets ≡ setsOf ds) (
   pub most-entries : sets .entries ≤ 128
   most-entries = omega (arith, held-entries, fits .few)
 
-  variable-held : asked ds ≡ not (eqb (find (roleWithin (sets .roles) 1 4) 0 (sets .entries)) (sets .entries))
+  variable-held : asked ds ≡ hasVariable (sets .roles) (sets .entries)
   unfolding setsOf
   variable-held = rw held (variable-found ds)
 
@@ -267,8 +267,8 @@ module _ (sets : Sets) (ds : List Entry) (n : ℕ) (held : sets ≡ setsOf ds) (
   unfolding setsOf
   only-held = rw held (only-is ds)
 
-  pub no-variable : (t : Tally) → find (roleWithin (sets .roles) 1 4) 0 (sets .entries) ≡ sets .entries → stateRules ds t ≡ accepted
-  no-variable t h = not-asked ds t (variable-held ∙ rw (eq-eqb (find (roleWithin (sets .roles) 1 4) 0 (sets .entries)) (sets .entries) h))
+  pub no-variable : (t : Tally) → hasVariable (sets .roles) (sets .entries) ≡ false → stateRules ds t ≡ accepted
+  no-variable t h = not-asked ds t (variable-held ∙ h)
 
   module _ (i : ℕ) (here : i ≡ onlyStates (sets .roles) (sets .entries)) where
     not-one : i ≡ sets .entries → once ds ≡ false
@@ -354,9 +354,9 @@ module _ (sets : Sets) (ds : List Entry) (n : ℕ) (held : sets ≡ setsOf ds) (
           sixteen = rw held (sym (rule16-by ds t))
 
     -- where there is a variable set, they are judged by the entry that describes the states
-    module _ (t : TallyRead) (v : find (roleWithin (sets .roles) 1 4) 0 (sets .entries) ≡ sets .entries → ⊥) where
+    module _ (t : TallyRead) (v : hasVariable (sets .roles) (sets .entries) ≡ true) where
       is-asked : asked ds ≡ true
-      is-asked = variable-held ∙ rw (ne-eqb (find (roleWithin (sets .roles) 1 4) 0 (sets .entries)) (sets .entries) v)
+      is-asked = variable-held ∙ v
 
       pub none-described : i ≡ sets .entries → stateRules ds (tallyFrom t) ≡ refused 15 0 128
       none-described q = not-once ds (tallyFrom t) is-asked (not-one q)

@@ -21,7 +21,7 @@ use Rattle.layout.proofs.Laws.{lt-or-le}
 use Rattle.states.specs.declared.Tally.{Tally}
 use Rattle.states.specs.declared.Found.{Found}
 use Rattle.states.specs.declared.Found.the-variants.{At, Nothing}
-use Rattle.states.specs.States.{stateFrom, statesFrom, cap, capped, Capped, added, tallyIs, tally, withState, after, noTally, foundBehind, found}
+use Rattle.states.specs.States.{stateFrom, statesFrom, cap, capped, Capped, added, tallyIs, withState, after, noTally, foundBehind, found}
 use Rattle.states.proofs.Sums.{zero-capped, capped-is, capped-plus, no-sums, added-capped, Four, added-four, left, left-none, left-step}
 
 -- ---- the numbers of a state

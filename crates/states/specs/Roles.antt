@@ -7,13 +7,17 @@ use lib.Dec.{leb, ltb, eqb}
 use lib.ListN.{getD}
 use Rattle.layout.specs.Bytes.{within}
 use Rattle.layout.specs.Answer.{Answer, need, where′, _orElse_}
-use Rattle.layout.specs.Search.{count, find}
+use Rattle.layout.specs.Search.{some, count, find}
 use Rattle.directory.specs.declared.Sets.{Sets}
 use Rattle.states.specs.declared.Tally.{Tally}
 
 -- the role of entry i lies between two
 unfoldable pub roleWithin : List ℕ → ℕ → ℕ → ℕ → Bool
 roleWithin roles low high i = within low high (getD roles i 0)
+
+-- one of n entries is a variable set
+unfoldable pub hasVariable : List ℕ → ℕ → Bool
+hasVariable roles n = some (roleWithin roles 1 4) 0 n
 
 -- the entry that describes the states, if exactly one of n entries does, else n
 unfoldable pub onlyStates : List ℕ → ℕ → ℕ

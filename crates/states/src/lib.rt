@@ -11,7 +11,7 @@ ghost use Rattle.layout.specs.Rules.{stateRules};
 ghost use Rattle.layout.specs.Search.{find};
 ghost use Rattle.layout.specs.States.{sizeOfState, stateOf, stateFits, stateCount, statesOf, tallyOf};
 ghost use Rattle.states.specs.States.{state, stateIs, cap, capped, Capped, added, statesFrom, tallyIs, tally, tallyFrom, withState, found};
-ghost use Rattle.states.specs.Roles.{roleWithin, onlyStates, unfilled, unfilledAt, rule16By, describedBy};
+ghost use Rattle.states.specs.Roles.{roleWithin, hasVariable, onlyStates, unfilled, unfilledAt, rule16By, describedBy};
 ghost use Rattle.states.specs.Laid.{Laid, Every, spanOf};
 use directory::Sets;
 use layout::Verdict;
@@ -239,6 +239,14 @@ fn first_role(roles: &[u8; 128], from: usize, entries: usize, low: u8, high: u8)
     entries
 }
 
+// Some entry is a variable set.
+pub fn has_variable(roles: &[u8; 128], entries: usize) -> bool
+    requires { ⌜ entries ≤ 128 ⌝ }
+    ensures { λ r. ⌜ r ≡ hasVariable (now (roles .entry)) entries ⌝ }
+{
+    first_role(roles, 0, entries, 1, 4) != entries
+}
+
 // The entry that describes the states, if exactly one does, else the number of entries.
 fn only_states(roles: &[u8; 128], entries: usize) -> usize
     requires { ⌜ entries ≤ 128 ⌝ }
@@ -370,7 +378,7 @@ pub fn judge_tally(sets: Sets, tally: Tally) -> Verdict
 {
     let entries = sets.entries;
     let roles = sets.roles;
-    if first_role(&roles, 0, entries, 1, 4) == entries {
+    if !has_variable(&roles, entries) {
         return Verdict::Accepted;
     }
     let i = only_states(&roles, entries);
@@ -387,7 +395,7 @@ pub fn judge_states(p: &[u8], sets: Sets) -> Verdict
 {
     let entries = sets.entries;
     let roles = sets.roles;
-    if first_role(&roles, 0, entries, 1, 4) == entries {
+    if !has_variable(&roles, entries) {
         return Verdict::Accepted;
     }
     let span = states_span(sets);

@@ -1,21 +1,20 @@
 -- `states::judge_states` meets its contract.
 -- Assumes nothing.
 use mathlib.Core.Path.{sym, _∙_}
-use native.Mathlib.Omega.{arith}
-use native.Mathlib.Nat.{sub-zero}
+use borrow.Author.Tests.{not-true}
 use Rattle.layout.specs.Answers.{verdictIs}
 use Rattle.states.proofs.Fits.{most-entries, no-variable, span-inside, tally-decides}
 use Rattle.states.proofs.judge_states.Statement.{statement}
 use Rattle.states.proofs.judge_states.Tie as tie
 
-first-role-requires : tie.Need-first-role-requires
-first-role-requires c κs =
+has-variable-requires : tie.Need-has-variable-requires
+has-variable-requires c κs =
     let l = c .before .before .before .pre in
-    (omega arith, most-entries _ _ _ (l .held) (l .fits))
+    most-entries _ _ _ (l .held) (l .fits)
 
 returns : tie.Need-returns
 unfolding verdictIs
-returns c = λ ds n held fits. sym (no-variable _ ds n held fits _ (sym (rw sub-zero at (c .before .first-role .ensures)) ∙ c .if1 .taken))
+returns c = λ ds n held fits. sym (no-variable _ ds n held fits _ (sym (c .before .has-variable .ensures) ∙ not-true _ (c .if1 .taken)))
 
 states-span-requires : tie.Need-states-span-requires
 states-span-requires c κs = (_, c .before .before .before .before .before .pre)
@@ -35,7 +34,7 @@ pub judge-states-spec : {M : Type 1} → statement M
 judge-states-spec =
     tie.close
     (tie.spec
-    first-role-requires
+    has-variable-requires
     returns
     states-span-requires
     tally-states-requires

@@ -2,8 +2,7 @@
 -- Assumes nothing.
 use Prim.Native.Nat.{_≤_}
 use mathlib.Core.Path.{sym, _∙_}
-use native.Mathlib.Omega.{arith}
-use native.Mathlib.Nat.{sub-zero}
+use borrow.Author.Tests.{not-true, not-false}
 use Rattle.layout.specs.Answers.{verdictIs}
 use Rattle.states.proofs.Fits.{most-entries, no-variable, in-entries, none-described, one-described}
 use borrow.Author.Needs.{needs}
@@ -13,12 +12,12 @@ use Rattle.states.proofs.judge_tally.Tie as tie
 most : (s : tie.Start) → s .args .sets .entries ≤ 128
 most s = most-entries _ _ _ (s .pre .1 .held) (s .pre .1 .fits)
 
-first-role-requires : tie.Need-first-role-requires
-first-role-requires c κs = (omega arith, most (c .before .before))
+has-variable-requires : tie.Need-has-variable-requires
+has-variable-requires c κs = most (c .before .before)
 
 returns : tie.Need-returns
 unfolding verdictIs
-returns c = λ ds n held fits. sym (no-variable _ ds n held fits _ (sym (rw sub-zero at (c .before .first-role .ensures)) ∙ c .if1 .taken))
+returns c = λ ds n held fits. sym (no-variable _ ds n held fits _ (sym (c .before .has-variable .ensures) ∙ not-true _ (c .if1 .taken)))
 
 only-states-requires : tie.Need-only-states-requires
 only-states-requires c κs = most (c .before .before .before .before .before)
@@ -30,7 +29,7 @@ returns-2 : tie.Need-returns-2
 returns-2 c =
     let i = c .before .before in
     let f = i .before .before in
-    λ ds n held fits. c .refuse .ensures ∙ sym (none-described _ ds n held fits _ (i .only-states .ensures) _ (λ h. f .if1 .left ((rw sub-zero at (f .before .first-role .ensures)) ∙ h)) (c .before .if2 .taken))
+    λ ds n held fits. c .refuse .ensures ∙ sym (none-described _ ds n held fits _ (i .only-states .ensures) _ (sym (f .before .has-variable .ensures) ∙ not-false _ (f .if1 .left)) (c .before .if2 .taken))
 
 judge-described-requires : tie.Need-judge-described-requires
 judge-described-requires c κs =
@@ -42,13 +41,13 @@ returns-3 : tie.Need-returns-3
 returns-3 c =
     let i = c .before .before in
     let f = i .before .before in
-    λ ds n held fits. c .judge-described .ensures ∙ one-described _ ds n held fits _ (i .only-states .ensures) _ (λ h. f .if1 .left ((rw sub-zero at (f .before .first-role .ensures)) ∙ h)) (c .before .if2 .left)
+    λ ds n held fits. c .judge-described .ensures ∙ one-described _ ds n held fits _ (i .only-states .ensures) _ (sym (f .before .has-variable .ensures) ∙ not-false _ (f .if1 .left)) (c .before .if2 .left)
 
 pub judge-tally-spec : {M : Type 1} → statement M
 judge-tally-spec =
     tie.close
     (tie.spec
-    first-role-requires
+    has-variable-requires
     returns
     only-states-requires
     refuse-requires
