@@ -34,7 +34,7 @@ use Rattle.placement.specs.Sets.{Held}
 use Rattle.dsd.specs.Held.{numberFrom, heldOf, viewOf, overPlace}
 use Rattle.dsd.proofs.Views.{turn-held, capped-test}
 use Rattle.directory.specs.Numbers.{setsOf, heldStart, heldSets}
-use Rattle.directory.specs.Checks.{Headers, Dsds, overAt, unfitAt, Counted, textRules, numberRules, placeRules, Placed}
+use Rattle.directory.specs.Checks.{Headers, Dsds, SparesByFirst, overAt, unfitAt, Counted, textRules, numberRules, placeRules, Placed}
 use Rattle.directory.proofs.Turns.{place, nine}
 use Rattle.directory.proofs.Held.{not-over, held-same}
 use Rattle.sph.specs.LineEnds.{firstBadLine}
@@ -42,7 +42,7 @@ use Rattle.directory.specs.declared.Sets.{Sets}
 use Rattle.directory.specs.declared.Reading.{Reading}
 use Rattle.dsd.proofs.Numbers.{is-zero, above, from-zero, equals, both-pass}
 use Rattle.dsd.proofs.Fits.{all-four}
-use Rattle.dsd.proofs.Places.{short-number}
+use Rattle.dsd.proofs.Places.{short-number, spare-by-first}
 use Rattle.sph.proofs.BadLines.{rule-7}
 
 -- ---- where the DSDs begin
@@ -66,6 +66,13 @@ module _ (b : List ℕ) (dsds n : ℕ) (placed : Dsds b dsds n) where
   pub eight-all : (m : ℕ) → rule8 b m ≡ first (rule8At b) 0 n
   unfolding rule8
   eight-all m = ap (first (rule8At b) 0) (sym (placed .all))
+
+  -- where rules 7 and 8 hold, the first byte tells the spares
+  pub spares-by-first : (m : ℕ) → textRules b m ≡ accepted → SparesByFirst b dsds n
+  unfolding textRules rule8 rule8At dsdBytes
+  spares-by-first m text i l =
+      let eight = first-accepts-0 (rule8At b) (entries b) .0 (orElse-accepts (rule7 b m) (rule8 b m) .0 text .1) i (omega (arith, placed .all)) in
+      spare-by-first b (dsds + 280 * i) 8 i (dsdAt b i) (rw (place b dsds n i placed) eight)
 
   length-all : length (directory b) ≡ n
   length-all = length-directory b ∙ sym (placed .all)

@@ -1,6 +1,6 @@
 -- What the checks of the directory answer (document 01, rules 7 to 14), over the bytes at hand and the length of the product.
 -- Assumes nothing.
-use Prim.Native.Nat.{ℕ, _+_, _*_, _-_, _≤_}
+use Prim.Native.Nat.{ℕ, _+_, _*_, _-_, _≤_, _<_}
 use mathlib.Core.Bool.{Bool, not}
 use mathlib.Core.List.{List}
 use mathlib.Core.Path.{_≡_}
@@ -12,7 +12,7 @@ use Rattle.layout.specs.Entries.{Entry, headersEnd, entries, dsdsAt, at, number
 use Rattle.layout.specs.Rules.{rule7, rule8, rule9, rule10, dataSets, rule11, rule12At, rule13At, rule14At}
 use Rattle.layout.specs.Answers.{verdictIs}
 use Rattle.layout.specs.declared.Verdict.{Verdict}
-use Rattle.dsd.specs.Held.{overPlace, heldOf, viewOf}
+use Rattle.dsd.specs.Held.{overPlace, heldOf, viewOf, SpareByFirst}
 use Rattle.placement.specs.Sets.{Held}
 use Rattle.directory.specs.Numbers.{heldSets}
 use Rattle.directory.specs.declared.Reading.{Reading}
@@ -34,6 +34,10 @@ pub record Dsds (b : List ℕ) (dsds n : ℕ) : Type 0 where
   pub most : n ≤ 128
   pub behind : 1247 ≤ dsds
   pub inside : dsds + 280 * n ≤ length b
+
+-- of n DSDs from a place on the first byte tells the spares
+abbrev pub SparesByFirst : List ℕ → ℕ → ℕ → Type 0
+SparesByFirst b from n = (i : ℕ) → i < n → SpareByFirst b (from + 280 * i)
 
 -- ---- what one reading of the entries counts
 

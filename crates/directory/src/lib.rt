@@ -17,7 +17,7 @@ ghost use Rattle.layout.specs.Rules.{rule8At, rules7to14};
 ghost use Rattle.layout.specs.Search.{first};
 ghost use Rattle.directory.specs.Numbers.{together, noSets, heldSets, directoryWith};
 ghost use Rattle.directory.specs.Texts.{textsFrom, Room};
-ghost use Rattle.directory.specs.Checks.{Headers, Dsds, Counted, ReadFrom, textRules, numberRules, Placed};
+ghost use Rattle.directory.specs.Checks.{Headers, Dsds, SparesByFirst, Counted, ReadFrom, textRules, numberRules, Placed};
 
 // The numbers and roles of up to 128 entries held together, unused places zero.
 pub struct Sets {
@@ -120,7 +120,8 @@ fn row_with(row: usize, i: usize, passes: bool) -> usize
     i
 }
 
-// One reading of n DSDs from a place on, whatever their bytes are. The arrays are lent: one that a call answers is copied at each return.
+// One reading of n DSDs from a place on, whatever their bytes are, but that one whose first byte is a blank is a spare. The arrays are lent: one that a
+// call answers is copied at each return.
 pub fn read_sets(
     p: &[u8],
     from: usize,
@@ -132,7 +133,7 @@ pub fn read_sets(
     record_sizes: &mut [i64; 128],
     roles: &mut [u8; 128],
 ) -> Reading
-    requires { ⌜ (from + sizeOfDsd * n ≤ length (now p)) × (n ≤ 128) × (together 0 (now types) (now offsets) (now sizes) (now counts) (now «record_sizes») (now roles) ≡ noSets) ⌝ }
+    requires { ⌜ (from + sizeOfDsd * n ≤ length (now p)) × (n ≤ 128) × SparesByFirst (now p) from n × (together 0 (now types) (now offsets) (now sizes) (now counts) (now «record_sizes») (now roles) ≡ noSets) ⌝ }
     ensures counted { λ r. ⌜ Counted (entriesFrom (now (p .entry)) from n) r ⌝ }
     ensures held { λ r. ⌜ together n (now (types .exit)) (now (offsets .exit)) (now (sizes .exit)) (now (counts .exit)) (now («record_sizes» .exit)) (now (roles .exit)) ≡ heldSets (entriesFrom (now (p .entry)) from n) ⌝ }
 {

@@ -1,22 +1,29 @@
--- What an entry is, by the places of its values in the product; and that numbers of ten digits are far below 2^63.
+-- What an entry is, by the places of its values in the product; that numbers of ten digits are far below 2^63; and what is held of a spare, which rule 8
+-- lets the first byte tell.
 -- Assumes nothing.
 use Prim.Native.Nat.{ℕ, zero, suc, _+_, _*_, _-_, _≤_, _<_, suc-le-suc}
 use mathlib.Core.Bool.{Bool, true, false, cond}
 use mathlib.Core.List.{List, [], _∷_}
-use mathlib.Core.Path.{_≡_, sym, ap, _∙_}
+use mathlib.Core.Path.{_≡_, refl, sym, ap, _∙_}
 use native.Mathlib.Omega.{arith}
-use native.Mathlib.Nat.{le-trans}
-use lib.Dec.{eqb, lit≤}
+use native.Mathlib.Nat.{le-trans, add-zero}
+use lib.Dec.{eqb, eqb→eq, lit≤}
 use lib.ListN.{length, take, drop, getD, length-drop}
-use lib.Seq.{drop-drop, getD-take, getD-drop, length-take-le}
+use lib.Seq.{take-take, drop-drop, getD-take, getD-drop, length-take-le}
 use Rattle.layout.specs.Bytes.{part, byteAt}
-use Rattle.layout.specs.Text.{lineClasses, valueClasses, valueWidth, quoteWidth, placeOf, widthOf, valueOf, digits, numberOf}
-use Rattle.layout.specs.Lines.{dsd}
-use Rattle.layout.specs.Entries.{Entry, entryOf}
+use Rattle.layout.specs.Text.{fits, literal, layout, lineClasses, valueClasses, valueWidth, quoteWidth, placeOf, widthOf, valueOf, digits, numberOf}
+use Rattle.layout.specs.Lines.{dsd, spareDsd}
+use Rattle.layout.specs.Answer.{accepted, need}
+use Rattle.layout.specs.Search.{laidOut}
+use Rattle.layout.specs.Entries.{Entry, entryOf, called}
+use Rattle.layout.specs.Rules.{linesOf}
+use Rattle.layout.proofs.Laws.{accepted≢refused, need-accepts, orElse-accepts}
 use Rattle.layout.proofs.Agree.{part-of-take}
+use Rattle.text.proofs.Parts.{byte-part}
 use Rattle.text.specs.Numbers.{capped, numberIn}
 use Rattle.text.specs.declared.Number.{Number as HeldNumber}
-use Rattle.dsd.specs.Held.{nameRole, heldOf, Read}
+use Rattle.dsd.specs.declared.Entry.{Entry as HeldEntry}
+use Rattle.dsd.specs.Held.{nameRole, heldOf, spareBytes, SpareByFirst, Read}
 
 -- ---- places
 
@@ -127,3 +134,39 @@ module _ (b : List ℕ) (bytes : (k : ℕ) → getD b k 0 < 256) (start : ℕ) (
             let q = ap (λ (x : HeldNumber). x .magnitude) (er ∙ short-number b bytes (start + 228) (omega arith)) in
             omega (arith, short-most b bytes (start + 228) (omega arith));
       }
+
+-- ---- a spare
+
+abbrev no-number : HeldNumber
+no-number = record { minus = false; magnitude = 0 }
+
+pub held-spare : record { «ds_type» = 32; offset = no-number; size = no-number; count = no-number; «record_size» = no-number; «name_role» = 0 } ≡ heldOf (entryOf spareBytes)
+unfolding heldOf entryOf valueOf placeOf widthOf dsd lineClasses valueClasses quoteWidth valueWidth byteAt part numberOf digits capped nameRole called spareBytes
+held-spare = refl
+
+-- bytes laid out as a text are the text
+laid-text : (n e : ℕ) (xs d : List ℕ) (p : ℕ) → laidOut n e p (literal xs) d ≡ accepted → take (length xs) d ≡ xs
+unfolding laidOut fits
+laid-text n e [] d p h = refl
+laid-text n e (x ∷ xs) [] p h = absurd (accepted≢refused (sym h))
+laid-text n e (x ∷ xs) (y ∷ d) p h =
+    let both = orElse-accepts (need (eqb y x) n p e) (laidOut n e (suc p) (literal xs) d) .0 h in
+    rw (eqb→eq y x (need-accepts (eqb y x) n p e .0 (both .0)), laid-text n e xs d (suc p) (both .1))
+
+spare-text : layout spareDsd ≡ literal spareBytes
+unfolding layout spareDsd lineClasses spareBytes
+spare-text = refl
+
+module _ (b : List ℕ) (start : ℕ) where
+  pub read-spare : {r : HeldEntry} → r ≡ heldOf (entryOf spareBytes) → part b start 280 ≡ spareBytes → Read b start r
+  read-spare e s = record { is = rw s e; small = rw (e, ← held-spare) (lit≤ tt) }
+
+  whole : take (length spareBytes) (part b start 280) ≡ part b start 280
+  unfolding part spareBytes
+  whole = take-take 280 280 (drop start b) (lit≤ tt)
+
+  pub spare-by-first : (n e p : ℕ) → laidOut n e p (layout (linesOf (part b start 280))) (part b start 280) ≡ accepted → SpareByFirst b start
+  unfolding linesOf
+  spare-by-first n e p h blank =
+      let first : byteAt (part b start 280) 0 ≡ 32 = byte-part b start 280 0 (lit≤ tt) ∙ rw (add-zero start) blank in
+      sym whole ∙ laid-text n e spareBytes (part b start 280) p (rw (first, spare-text) at h)

@@ -3,10 +3,11 @@
 -- Assumes nothing.
 use Prim.Native.Nat.{ℕ, _<_}
 use mathlib.Core.Bool.{cond}
-use mathlib.Core.List.{List, []}
+use mathlib.Core.List.{List, [], _∷_, _++_}
 use mathlib.Core.Path.{_≡_}
 use lib.Dec.{leb, eqb}
-use Rattle.layout.specs.Bytes.{bytes, part}
+use lib.ListN.{replicate}
+use Rattle.layout.specs.Bytes.{bytes, part, byteAt}
 use Rattle.layout.specs.Text.{Number}
 use Rattle.layout.specs.Entries.{Entry, entryOf, called, kindOf, isVariable, isStates, largestSigned}
 use Rattle.text.specs.Numbers.{capped}
@@ -42,6 +43,14 @@ heldOf e =
       «record_size» = record { minus = e .recordSize .minus; magnitude = e .recordSize .magnitude };
       «name_role» = nameRole (e .name);
     }
+
+-- a spare DSD: 279 blanks and byte 10
+unfoldable pub spareBytes : List ℕ
+spareBytes = replicate 279 32 ++ 10 ∷ []
+
+-- the DSD from a place on is a spare where its first byte is a blank, as rule 8 asks
+abbrev pub SpareByFirst : List ℕ → ℕ → Type 0
+SpareByFirst b start = byteAt b start ≡ 32 → part b start 280 ≡ spareBytes
 
 -- r is what is held of the DSD's entry, and its DSR_SIZE has a value of 64 bits
 pub record Read (b : List ℕ) (start : ℕ) (r : HeldEntry) : Type 0 where

@@ -2,13 +2,12 @@
 ghost use mathlib.Core.Path.{_≡_};
 ghost use mathlib.Core.Bool.{true, not, cond};
 ghost use Prim.Native.Nat.{_+_, _≤_, _<_};
-ghost use lib.Dec.{ltb};
 ghost use lib.IntN.{pos};
 ghost use lib.ListN.{length};
 ghost use Rattle.layout.specs.Bytes.{part};
 ghost use Rattle.layout.specs.Lines.{sizeOfDsd};
-ghost use Rattle.layout.specs.Entries.{called, isData, allZero, inRange, isFixed, isVariable, setFits, numbersFit, atLeast};
-ghost use Rattle.dsd.specs.Held.{nameRole, numberFrom, viewOf, Read, overPlace, roleOf};
+ghost use Rattle.layout.specs.Entries.{entryOf, called, isData, allZero, inRange, isFixed, isVariable, setFits, numbersFit, atLeast};
+ghost use Rattle.dsd.specs.Held.{nameRole, numberFrom, heldOf, viewOf, spareBytes, SpareByFirst, Read, overPlace, roleOf};
 
 // The 28 bytes from `start` on are this name, padded with blanks.
 fn is_called(p: &[u8], start: usize, name: &[u8]) -> bool
@@ -71,11 +70,32 @@ pub struct Entry {
 impl Entry {
     pub const SIZE: usize = 280;
 
-    // The entry of the DSD that begins at `start`.
+    // The entry of a spare: type 32 and zeros.
+    fn spare() -> Entry
+        ensures { λ r. ⌜ r ≡ heldOf (entryOf spareBytes) ⌝ }
+    {
+        let zero = text::Number {
+            minus: false,
+            magnitude: 0,
+        };
+        Entry {
+            ds_type: b' ',
+            offset: zero,
+            size: zero,
+            count: zero,
+            record_size: zero,
+            name_role: 0,
+        }
+    }
+
+    // The entry of the DSD that begins at `start`. Its first byte tells a spare, as it does where rule 8 holds.
     pub fn at(p: &[u8], start: usize) -> Entry
-        requires { ⌜ start + sizeOfDsd ≤ length (now p) ⌝ }
+        requires { ⌜ (start + sizeOfDsd ≤ length (now p)) × SpareByFirst (now p) start ⌝ }
         ensures { λ r. ⌜ Read (now (p .entry)) start r ⌝ }
     {
+        if p[start] == b' ' {
+            return Entry::spare();
+        }
         Entry {
             ds_type: p[start + 47],
             offset: text::number_at(p, start + 133, 21),

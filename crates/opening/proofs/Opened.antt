@@ -19,10 +19,10 @@ use Rattle.layout.proofs.Sound.{headed}
 use Rattle.header.specs.Checks.{HeaderChecked}
 use Rattle.header.specs.declared.HeaderCheck.{HeaderCheck}
 use Rattle.directory.specs.Numbers.{setsOf, heldSets}
-use Rattle.directory.specs.Checks.{Headers, Counted, textRules, numberRules, placeRules, Placed}
+use Rattle.directory.specs.Checks.{Headers, SparesByFirst, Counted, textRules, numberRules, placeRules, Placed}
 use Rattle.directory.specs.declared.Reading.{Reading}
 use Rattle.directory.specs.declared.Sets.{Sets}
-use Rattle.directory.proofs.Rules.{dsds-of, rules-split, the-directory, numbers-read, places-are}
+use Rattle.directory.proofs.Rules.{dsds-of, spares-by-first, rules-split, the-directory, numbers-read, places-are}
 use Rattle.states.specs.Laid.{Laid, Every}
 use Rattle.states.proofs.Fits.{fitting, laid}
 use Rattle.opening.specs.Opening.{longestHeaders, frontRules, setRules, Fronted, FrontChecked, SetsRead, closed, Opened}
@@ -61,13 +61,13 @@ module _ (b : List ℕ) (n : ℕ) (header : HeaderCheck) (checked : HeaderChecke
     unfolding frontRules
     text-checked enough v h = record { judged = h ∙ sym (rw six); good = λ e. record { rules = e; headers = headers enough } }
 
+text : (b : List ℕ) (n : ℕ) (front : HeaderCheck) → Fronted b n front → textRules b n ≡ accepted
+unfolding frontRules
+text b n front fronted = orElse-accepts (rules1to6 b n) (textRules b n) .0 (fronted .rules) .1
+
 -- ---- rules 9 to 14
 
 module _ (b : List ℕ) (n : ℕ) (front : HeaderCheck) (fronted : Fronted b n front) (reading : Reading) (offsets sizes : List ℕ) (sets : SetsRead (directory b) reading offsets sizes) where
-  text : textRules b n ≡ accepted
-  unfolding frontRules
-  text = orElse-accepts (rules1to6 b n) (textRules b n) .0 (fronted .rules) .1
-
   pub numbers-refused : (r : Refusal) (v : Verdict) → v ≡ Refused r → verdictIs v ≡ numberRules b n → verdictIs v ≡ setRules b n
   unfolding setRules
   numbers-refused r v h t = t ∙ rw (told-refused v r (numberRules b n) h t)
@@ -77,7 +77,7 @@ module _ (b : List ℕ) (n : ℕ) (front : HeaderCheck) (fronted : Fronted b n f
   unfolding setRules
   places-last u good t v placed =
       let numbers = told-accepted u (numberRules b n) good t in
-      places-are b (front .«headers_end») (front .entries) (fronted .headers) n text reading (sets .read .counted) numbers offsets sizes (sets .read .held) (sets .extents) v placed
+      places-are b (front .«headers_end») (front .entries) (fronted .headers) n (text b n front fronted) reading (sets .read .counted) numbers offsets sizes (sets .read .held) (sets .extents) v placed
       ∙ sym (rw numbers)
 
 -- ---- rules 1 to 14
@@ -98,6 +98,10 @@ module _ (b : List ℕ) (n : ℕ) where
     module _ (good : front .verdict ≡ Accepted) where
       pub fronted : Fronted b n front
       fronted = checked .good (told-accepted (front .verdict) (frontRules b n) good (checked .judged))
+
+      -- what a reading of the numbers asks of the DSDs
+      pub spares-told : SparesByFirst b (front .«headers_end» - 280 * front .entries) (front .entries)
+      spares-told = spares-by-first b (front .«headers_end» - 280 * front .entries) (front .entries) (dsds-of (fronted .headers)) n (text b n front fronted)
 
       entries-are : entriesFrom b (front .«headers_end» - 280 * front .entries) (front .entries) ≡ directory b
       entries-are = the-directory b (front .«headers_end») (front .entries) (fronted .headers)
@@ -129,7 +133,7 @@ module _ (b : List ℕ) (n : ℕ) where
             unfolding setRules
             are =
                 held-are
-                ∙ numbers-read b (front .«headers_end») (front .entries) (fronted .headers) n (text b n front fronted reading (sets .offsets) (sets .sizes) sets-read) reading of-directory
+                ∙ numbers-read b (front .«headers_end») (front .entries) (fronted .headers) n (text b n front fronted) reading of-directory
                 (orElse-accepts (numberRules b n) (placeRules (directory b) (headersEnd b) n) .0 set-rules .0)
 
             pub all-passed : (answer : Sets) → answer ≡ sets → Opened b n (record { verdict = Accepted; dsds = front .«headers_end» - 280 * front .entries; sets = answer })

@@ -1,13 +1,12 @@
--- The turns of the loop over a number's digits, and the value of a number.
+-- The turns of the loop over a number's digits, digits in pairs and in halves, and the value of a number.
 -- Assumes nothing.
 use Prim.Native.Nat.{ℕ, zero, suc, _+_, _*_, _-_, _^_, _≤_, _<_, min}
 use mathlib.Core.Bool.{Bool, true, false, cond, not}
 use mathlib.Core.List.{List, [], _∷_}
 use mathlib.Core.Path.{_≡_, refl, sym, ap, _∙_, subst}
 use native.Mathlib.Omega.{arith}
-use native.Mathlib.Nat.{add-zero, zero-add, add-suc, suc-add, add-mul, mul-assoc, mul-comm, add-assoc, lt-of-lt-of-le, le-of-suc-le-suc, pow-le-pow-right, pow-suc}
-use lib.Arith.{digits-lt}
-use lib.Dec.{T, eqb, lit≤}
+use native.Mathlib.Nat.{add-zero, zero-add, suc-add, add-mul, mul-assoc, mul-comm, add-assoc, pow-suc}
+use lib.Dec.{T, eqb}
 use lib.IntN.{ℤ, pos, negℤ, _-ℤ_, +ℤ-idl}
 use lib.ListN.{length, getD}
 use lib.Seq.{drop-cons}
@@ -19,13 +18,12 @@ use borrow.Author.Tests.{eq-eqb, ne-eqb, lt-ltb}
 use Rattle.layout.specs.Bytes.{part, byteAt}
 use Rattle.layout.specs.Text.{digit, fits, digits, numberOf}
 use Rattle.layout.specs.Search.{some}
-use Rattle.text.specs.Blanks.{notBlank}
 use Rattle.text.specs.Runs.{fails}
-use Rattle.text.specs.Numbers.{capped, withByte, numberIn, wholeIn}
+use Rattle.text.specs.Numbers.{AllDigits, capped, withByte, numberIn, wholeIn}
 use Rattle.text.specs.declared.Number.{Number}
 use Rattle.text.proofs.Parts.{part-cons, part-end}
 use Rattle.text.proofs.Runs.{tested}
-use Rattle.text.proofs.Tests.{blank-at, digit-bounds, not-failing}
+use Rattle.text.proofs.Tests.{digit-bounds, not-failing}
 
 -- ---- one byte more
 
@@ -85,13 +83,6 @@ number-is b at width m h l e =
 
 -- ---- ten digits, and twenty
 
--- fewer than ten digits leave room for one more
-pub ten-room : (v n : ℕ) → v < 10 ^ n → n < 10 → v < 1000000000
-ten-room v n h l = lt-of-lt-of-le h (pow-le-pow-right (lit≤ tt) (le-of-suc-le-suc l))
-
-pub ten-next : (v d at i : ℕ) → at ≤ i → v < 10 ^ (i - at) → d < 10 → v * 10 + d < 10 ^ (i + 1 - at)
-ten-next v d at i l h k = let q : i + 1 - at ≡ suc (i - at) = omega arith in rw (q, pow-suc 10 (i - at)) (digits-lt h k)
-
 with-digit : (m x : ℕ) (xs : List ℕ) → T (fits digit x) → digits m (x ∷ xs) ≡ digits (m * 10 + (x - 48)) xs
 unfolding digits
 with-digit m x xs d = ap (λ (v : ℕ). digits v xs) (go (λ e. let k = digit-bounds x d in omega (arith, k .0)))
@@ -100,78 +91,77 @@ with-digit m x xs d = ap (λ (v : ℕ). digits v xs) (go (λ e. let k = digit-bo
     go n = rw (ne-eqb x 46 n)
 
 module _ (b : List ℕ) where
-  pub digit-after : (m i to r : ℕ) → i < to → to ≤ length b → T (fits digit (byteAt b i)) → r ≡ getD b i 0 - 48
-      → digits m (part b i (to - i)) ≡ digits (m * 10 + r) (part b (i + 1) (to - (i + 1)))
-  unfolding byteAt
-  digit-after m i to r h l d e = rw (part-cons b i to h l, e) (with-digit m (getD b i 0) _ d)
-
-  pub ten-end : (at i v : ℕ) → i ≤ at + 10 → at + 10 ≤ i → v < 10 ^ (i - at) → digits 0 (part b at (at + 10 - at)) ≡ digits v (part b i (at + 10 - i))
-      → (v ≡ digits 0 (part b at 10)) × (v < 10 ^ 10)
-  unfolding digits
-  ten-end at i v l g h e =
-      let q : at + 10 - at ≡ 10 = omega arith in
-      let n : i - at ≡ 10 = omega arith in
-      (sym ((rw q at e) ∙ rw (part-end b i (at + 10) g)), rw n at h)
-
   part-suc : (at n : ℕ) → at < length b → part b at (suc n) ≡ getD b at 0 ∷ part b (suc at) n
   unfolding part
   part-suc at n h = rw (drop-cons b at 0 h)
 
-  digits-split : (n at k m : ℕ) → at + n + k ≤ length b → digits m (part b at (n + k)) ≡ digits (digits m (part b at n)) (part b (at + n) k)
+  -- the bytes up to `mid`, and k from there on
+  digits-split : (n at mid k m : ℕ) → mid ≡ at + n → mid + k ≤ length b → digits m (part b at (n + k)) ≡ digits (digits m (part b at n)) (part b mid k)
   unfolding digits part
-  digits-split zero at k m h = rw (zero-add k, add-zero at)
-  digits-split (suc n) at k m h =
-      rw (suc-add n k, part-suc at (n + k) (omega arith), part-suc at n (omega arith), add-suc at n, ← suc-add at n)
-      (digits-split n (suc at) k (cond (eqb (getD b at 0) 46) m (m * 10 + (getD b at 0 - 48))) (omega arith))
+  digits-split zero at mid k m e h = rw (zero-add k, e, add-zero at)
+  digits-split (suc n) at mid k m e h =
+      rw (suc-add n k, part-suc at (n + k) (omega arith), part-suc at n (omega arith))
+      (digits-split n (suc at) mid k (cond (eqb (getD b at 0) 46) m (m * 10 + (getD b at 0 - 48))) (omega arith) h)
 
   digits-none : (at m : ℕ) → digits m (part b at 0) ≡ m
   unfolding digits part
   digits-none at m = refl
 
-  -- digits behind a number
-  digits-behind : (n at m : ℕ) → at + n ≤ length b → ((k : ℕ) → at ≤ k → k < at + n → T (fits digit (byteAt b k)))
-      → digits m (part b at n) ≡ m * 10 ^ n + digits 0 (part b at n)
+  digit-first : (n at m : ℕ) → at < length b → T (fits digit (byteAt b at)) → digits m (part b at (suc n)) ≡ digits (m * 10 + (getD b at 0 - 48)) (part b (suc at) n)
   unfolding byteAt
+  digit-first n at m l d = rw (part-suc at n l) (with-digit m (getD b at 0) _ d)
+
+  -- digits behind a number
+  digits-behind : (n at m : ℕ) → at + n ≤ length b → AllDigits b at n → digits m (part b at n) ≡ m * 10 ^ n + digits 0 (part b at n)
   digits-behind zero at m l h = rw (digits-none at m, digits-none at 0) (omega arith)
   digits-behind (suc n) at m l h =
       let d = getD b at 0 - 48 in
+      let here : (v : ℕ) → digits v (part b at (suc n)) ≡ digits (v * 10 + d) (part b (suc at) n) = λ v. digit-first n at v (omega arith) (h at (omega arith) (omega arith)) in
       let below : (v : ℕ) → digits v (part b (suc at) n) ≡ v * 10 ^ n + digits 0 (part b (suc at) n) = λ v. digits-behind n (suc at) v (omega arith) (λ k v w. h k (omega arith) (omega arith)) in
       here m ∙ below (m * 10 + d) ∙ rw (here 0, below (0 * 10 + d), pow-suc 10 n) (sums m d (10 ^ n) (digits 0 (part b (suc at) n)))
     where
-      here : (v : ℕ) → digits v (part b at (suc n)) ≡ digits (v * 10 + (getD b at 0 - 48)) (part b (suc at) n)
-      here v = rw (part-suc at n (omega arith)) (with-digit v (getD b at 0) _ (h at (omega arith) (omega arith)))
-
       sums : (m d w r : ℕ) → (m * 10 + d) * w + r ≡ m * (w * 10) + ((0 * 10 + d) * w + r)
       sums m d w r =
           let q : 0 * 10 + d ≡ d = omega arith in
           rw (q, add-mul (m * 10) d w, mul-assoc m 10 w, mul-comm 10 w) (add-assoc (m * (w * 10)) (d * w) r)
 
+  -- digits behind others
+  in-two : (n at mid k : ℕ) → mid ≡ at + n → mid + k ≤ length b → AllDigits b mid k → digits 0 (part b at (n + k)) ≡ digits 0 (part b at n) * 10 ^ k + digits 0 (part b mid k)
+  in-two n at mid k e l h = digits-split n at mid k 0 e l ∙ digits-behind k mid (digits 0 (part b at n)) l h
+
+  pub pair-is : (at x y : ℕ) → at + 2 ≤ length b → AllDigits b at 2 → x ≡ getD b at 0 - 48 → y ≡ getD b (at + 1) 0 - 48 → x * 10 + y ≡ digits 0 (part b at 2)
+  pair-is at x y l h e f =
+      let q : at + 1 ≡ suc at = omega arith in
+      let first = digit-first 1 at 0 (omega arith) (h at (omega arith) (omega arith)) in
+      let second = digit-first 0 (suc at) (0 * 10 + (getD b at 0 - 48)) (omega arith) (h (suc at) (omega arith) (omega arith)) in
+      rw (first, second, digits-none, e, f, q) (omega arith)
+
+  pub pairs-are : (at u v w x y : ℕ) → at + 10 ≤ length b → AllDigits b at 10
+      → u ≡ digits 0 (part b at 2) → v ≡ digits 0 (part b (at + 2) 2) → w ≡ digits 0 (part b (at + 4) 2) → x ≡ digits 0 (part b (at + 6) 2) → y ≡ digits 0 (part b (at + 8) 2)
+      → (u * 10000 + v * 100 + w) * 10000 + (x * 100 + y) ≡ digits 0 (part b at 10)
+  pairs-are at u v w x y l h e f g i j =
+      let from : (n : ℕ) → n ≤ 10 → AllDigits b (at + n) (10 - n) = λ n m k o p. h k (omega arith) (omega arith) in
+      omega (
+        arith,
+        in-two 2 at (at + 2) 8 refl (omega arith) (from 2 (omega arith)),
+        in-two 2 (at + 2) (at + 4) 6 (omega arith) (omega arith) (from 4 (omega arith)),
+        in-two 2 (at + 4) (at + 6) 4 (omega arith) (omega arith) (from 6 (omega arith)),
+        in-two 2 (at + 6) (at + 8) 2 (omega arith) (omega arith) (from 8 (omega arith)),
+      )
+
   -- the bytes that a test as a whole passed
-  pub all-digits : (at n : ℕ) (all : Bool) → all ≡ not (some (fails (fits digit) b) at n) → all ≡ true → (k : ℕ) → at ≤ k → k < at + n → T (fits digit (byteAt b k))
+  pub all-digits : (at n : ℕ) (all : Bool) → all ≡ not (some (fails (fits digit) b) at n) → all ≡ true → AllDigits b at n
   all-digits at n all e h k l u = not-failing (fits digit) b k (tested (fails (fits digit) b) n at all e h k l u)
 
-  -- blanks count 0
-  digits-blank : (n at : ℕ) → at + n ≤ length b → ((k : ℕ) → at ≤ k → k < at + n → getD b k 0 ≡ 32) → digits 0 (part b at n) ≡ 0
-  unfolding digits
-  digits-blank zero at l h = digits-none at 0
-  digits-blank (suc n) at l h =
-      rw (part-suc at n (omega arith), h at (omega arith) (omega arith)) (digits-blank n (suc at) (omega arith) (λ k v w. h k (omega arith) (omega arith)))
-
   module _ (from to : ℕ) where
-    pub blanks-is : (n : ℕ) (all : Bool) → from + n ≤ length b → to - from ≡ n → all ≡ not (some (notBlank b) from n) → all ≡ true → 0 ≡ capped (digits 0 (part b from (to - from)))
-    unfolding capped
-    blanks-is n all l w e h = rw (w, digits-blank n from l (λ k v u. blank-at b k (tested (notBlank b) n from all e h k v u)))
-
     pub ten-is : (r : ℕ) → to - from ≡ 10 → (r ≡ digits 0 (part b from 10)) × (r < 10 ^ 10) → r ≡ capped (digits 0 (part b from (to - from)))
     unfolding capped
     ten-is r w e = rw (w, ← (e .0)) (omega (arith, e .1))
 
-    pub twenty-is : (high low r : ℕ) → from + 20 ≤ length b → to - from ≡ 20 → ((k : ℕ) → from ≤ k → k < from + 20 → T (fits digit (byteAt b k)))
+    pub twenty-is : (high low r : ℕ) → from + 20 ≤ length b → to - from ≡ 20 → AllDigits b from 20
         → high ≡ digits 0 (part b from 10) → low ≡ digits 0 (part b (from + 10) 10) → r ≡ capped (high * 10 ^ 10 + low)
         → r ≡ capped (digits 0 (part b from (to - from)))
-    twenty-is high low r l w h e f is =
-        let behind = digits-behind 10 (from + 10) (digits 0 (part b from 10)) (omega arith) (λ k v u. h k (omega arith) (omega arith)) in
-        is ∙ rw (w, e, f) (ap capped (sym (digits-split 10 from 10 0 (omega arith) ∙ behind)))
+    twenty-is high low r l w h e f is = is ∙ rw (w, e, f) (ap capped (sym (in-two 10 from (from + 10) 10 refl (omega arith) (λ k v u. h k (omega arith) (omega arith)))))
 
 -- ---- the value
 

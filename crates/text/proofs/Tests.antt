@@ -6,7 +6,7 @@ use mathlib.Core.List.{List}
 use mathlib.Core.Path.{_≡_, _∙_, subst, sym}
 use lib.Dec.{T, leb, eqb, leb→le}
 use lib.ListN.{getD}
-use borrow.Author.Tests.{eq-eqb, ne-eqb, eqb-true, not-false}
+use borrow.Author.Tests.{eq-eqb, ne-eqb}
 use Rattle.layout.specs.Bytes.{byteAt}
 use Rattle.layout.specs.Text.{digit, fits}
 use Rattle.layout.proofs.Laws.{and-T, not-not}
@@ -21,10 +21,6 @@ module _ (b : List ℕ) (i : ℕ) where
   pub not-blank : (getD b i 0 ≡ 32 → ⊥) → notBlank b i ≡ true
   unfolding notBlank byteAt
   not-blank e = rw (ne-eqb (getD b i 0) 32 e)
-
-  pub blank-at : notBlank b i ≡ false → getD b i 0 ≡ 32
-  unfolding notBlank byteAt
-  blank-at e = eqb-true (getD b i 0) 32 (not-false (eqb (getD b i 0) 32) e)
 
   pub blank-test : eqb (getD b i 0) 32 ≡ not (notBlank b i)
   unfolding notBlank byteAt

@@ -1,19 +1,19 @@
 // Header text (document 01, "Header text"): runs of blanks, plain bytes and digits, and decimal numbers, read at a place of the lent bytes.
 ghost use mathlib.Core.Path.{_≡_};
-ghost use Prim.Native.Nat.{ℕ, _+_, _*_, _-_, _^_, _<_, _≤_};
+ghost use Prim.Native.Nat.{_+_, _*_, _-_, _^_, _<_, _≤_};
 ghost use mathlib.Core.Bool.{not};
 ghost use lib.Dec.{T};
 ghost use lib.ListN.{length};
-ghost use Rattle.layout.specs.Bytes.{part, byteAt};
+ghost use Rattle.layout.specs.Bytes.{part};
 ghost use Rattle.layout.specs.Search.{some, find};
 ghost use Rattle.layout.specs.Text.{plain, digit, fits, digits};
 ghost use Rattle.text.specs.Blanks.{notBlank};
 ghost use Rattle.text.specs.Runs.{fails, Skipped};
-ghost use Rattle.text.specs.Numbers.{capped, withByte, numberIn, wholeIn};
+ghost use Rattle.text.specs.Numbers.{AllDigits, capped, withByte, numberIn, wholeIn};
 
-// Each run of bytes of one class has three functions. `.._in` tests some bytes as a whole, without an exit, so that they are tested side by side;
-// `.._blocks` goes over whole blocks with it, the last of which ends with the run, and answers a place up to which all is good; and the search
-// goes byte by byte from there.
+// A run of blanks or of plain bytes has three functions. `.._in` tests some bytes as a whole, without an exit, so that they are tested side by side;
+// `.._blocks` goes over whole blocks with it, of blanks over one more that ends with the run, and answers a place up to which all is good; and the search
+// goes byte by byte from there. Digits have no blocks: a run of them is short.
 fn blanks_in(p: &[u8], at: usize, n: usize) -> bool
     requires { ⌜ at + n ≤ length (now p) ⌝ }
     ensures { λ r. ⌜ r ≡ not (some (notBlank (now (p .entry))) at n) ⌝ }
@@ -86,18 +86,12 @@ fn plain_blocks(p: &[u8], from: usize, to: usize) -> usize
     requires { ⌜ (from ≤ to) × (to ≤ length (now p)) ⌝ }
     ensures { λ r. ⌜ Skipped (fails (fits plain) (now (p .entry))) from to r ⌝ }
 {
-    if to - from < 16 {
-        return from;
-    }
     let mut i = from;
-    while 16 < to - i {
+    while 16 <= to - i {
         if !plain_in(p, i, 16) {
             return i;
         }
         i += 16;
-    }
-    if plain_in(p, to - 16, 16) {
-        return to;
     }
     i
 }
@@ -136,32 +130,12 @@ fn digits_in(p: &[u8], at: usize, n: usize) -> bool
     all
 }
 
-fn digit_blocks(p: &[u8], from: usize, to: usize) -> usize
-    requires { ⌜ (from ≤ to) × (to ≤ length (now p)) ⌝ }
-    ensures { λ r. ⌜ Skipped (fails (fits digit) (now (p .entry))) from to r ⌝ }
-{
-    if to - from < 8 {
-        return from;
-    }
-    let mut i = from;
-    while 8 < to - i {
-        if !digits_in(p, i, 8) {
-            return i;
-        }
-        i += 8;
-    }
-    if digits_in(p, to - 8, 8) {
-        return to;
-    }
-    i
-}
-
 // The first place in `from..to` whose byte is not a digit, or `to`.
 pub fn first_not_digit(p: &[u8], from: usize, to: usize) -> usize
     requires { ⌜ (from ≤ to) × (to ≤ length (now p)) ⌝ }
     ensures { λ r. ⌜ r ≡ find (fails (fits digit) (now (p .entry))) from (to - from) ⌝ }
 {
-    let mut i = digit_blocks(p, from, to);
+    let mut i = from;
     while i < to {
         if !is_digit(p[i]) {
             return i;
@@ -235,22 +209,24 @@ fn value_of(x: u8) -> u64
     requires { ⌜ T (fits digit x) ⌝ }
     ensures { λ r. ⌜ (r ≡ x - 48) × (r < 10) ⌝ }
 {
-    (x - 48) as u64
+    x as u64 - 48
 }
 
-// Ten digits, which need no cap.
+fn two_digits(p: &[u8], at: usize) -> u64
+    requires { ⌜ (at + 2 ≤ length (now p)) × AllDigits (now p) at 2 ⌝ }
+    ensures { λ r. ⌜ (r ≡ digits 0 (part (now (p .entry)) at 2)) × (r < 10 ^ 2) ⌝ }
+{
+    value_of(p[at]) * 10 + value_of(p[at + 1])
+}
+
+// Ten digits, which need no cap: in pairs, which do not wait for each other.
 fn ten_digits(p: &[u8], at: usize) -> u64
-    requires { ⌜ (at + 10 ≤ length (now p)) × ((k : ℕ) → at ≤ k → k < at + 10 → T (fits digit (byteAt (now p) k))) ⌝ }
+    requires { ⌜ (at + 10 ≤ length (now p)) × AllDigits (now p) at 10 ⌝ }
     ensures { λ r. ⌜ (r ≡ digits 0 (part (now (p .entry)) at 10)) × (r < 10 ^ 10) ⌝ }
 {
-    let end = at + 10;
-    let mut value: u64 = 0;
-    let mut i = at;
-    while i < end {
-        value = value * 10 + value_of(p[i]);
-        i += 1;
-    }
-    value
+    let high = two_digits(p, at) * 10000 + two_digits(p, at + 2) * 100 + two_digits(p, at + 4);
+    let low = two_digits(p, at + 6) * 100 + two_digits(p, at + 8);
+    high * 10000 + low
 }
 
 // Ten digits behind others, held at 2^63.
@@ -268,8 +244,7 @@ fn joined(high: u64, low: u64) -> u64
     9223372036854775808
 }
 
-// The same magnitude: of twenty digits, as sizes and offsets have them, in two halves, and of ten at once. Where those bytes are blanks, as in a
-// spare entry, it is 0. Digits are tested first, as most entries have them.
+// The same magnitude: of twenty digits, as sizes and offsets have them, in two halves, and of ten at once.
 fn magnitude_at(p: &[u8], from: usize, to: usize) -> u64
     requires { ⌜ (from ≤ to) × (to ≤ length (now p)) ⌝ }
     ensures { λ r. ⌜ r ≡ capped (digits 0 (part (now (p .entry)) from (to - from))) ⌝ }
@@ -278,16 +253,10 @@ fn magnitude_at(p: &[u8], from: usize, to: usize) -> u64
         if digits_in(p, from, 20) {
             return joined(ten_digits(p, from), ten_digits(p, from + 10));
         }
-        if blanks_in(p, from, 20) {
-            return 0;
-        }
     }
     if to - from == 10 {
         if digits_in(p, from, 10) {
             return ten_digits(p, from);
-        }
-        if blanks_in(p, from, 10) {
-            return 0;
         }
     }
     digits_at(p, from, to)

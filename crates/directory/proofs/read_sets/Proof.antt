@@ -50,7 +50,7 @@ loop-holds c =
     let b = c .before .args .p .now in
     let from = c .before .args .from in
     let n = c .before .args .n in
-    let zeros = c .before .pre .2 in (
+    let zeros = c .before .pre .3 in (
       omega arith,
       none-found (overAt (entriesFrom b from n)),
       none-found (unfitAt (entriesFrom b from n)),
@@ -71,7 +71,7 @@ add-at : tie.Need-add-at Inv-loop μ-loop
 add-at c = omega arith
 
 at-requires : tie.Need-at-requires Inv-loop μ-loop
-at-requires c κs = omega arith
+at-requires c κs = (omega arith, c .before .before .before .pre .2 _ (omega arith))
 
 element-write-types : tie.Need-element-write-types Inv-loop μ-loop
 element-write-types c = omega arith

@@ -4,7 +4,7 @@ use mathlib.Core.Path.{refl}
 use native.Mathlib.Omega.{arith}
 use borrow.Author.Needs.{needs}
 use Rattle.directory.proofs.Rules.{dsds-of}
-use Rattle.opening.proofs.Opened.{front-refused, fronted, sets-read, sets-refused, all-passed}
+use Rattle.opening.proofs.Opened.{front-refused, fronted, spares-told, sets-read, sets-refused, all-passed}
 use Rattle.opening.proofs.open_headers.Statement.{statement}
 use Rattle.opening.proofs.open_headers.Tie as tie
 
@@ -30,7 +30,11 @@ sub-dsds : tie.Need-sub-dsds
 sub-dsds c = let front = fronted _ _ (c .before .before .before .check-front .result) (c .before .before .before .check-front .ensures) (c .before .enum-told .given .1) in omega (arith, front .headers .room)
 
 read-sets-requires : tie.Need-read-sets-requires
-read-sets-requires c κs = let front = fronted _ _ (c .before .before .before .before .before .before .before .before .before .check-front .result) (c .before .before .before .before .before .before .before .before .before .check-front .ensures) (c .before .before .before .before .before .before .before .enum-told .given .1) in (omega (arith, dsds-of (front .headers) .inside), front .headers .most, refl)
+read-sets-requires c κs =
+    let checked = c .before .before .before .before .before .before .before .before .before .check-front in
+    let good = c .before .before .before .before .before .before .before .enum-told .given .1 in
+    let headers = fronted _ _ (checked .result) (checked .ensures) good .headers in
+    (omega (arith, dsds-of headers .inside), headers .most, spares-told _ _ (checked .result) (checked .ensures) good, refl)
 
 check-sets-requires : tie.Need-check-sets-requires
 check-sets-requires c κs =

@@ -1,7 +1,7 @@
 -- `text::first_not_digit` meets its contract: what is left of the search from `i` on is the whole search.
 -- Assumes nothing.
 use Prim.Native.Nat.{_≤_, _-_}
-use mathlib.Core.Path.{_≡_}
+use mathlib.Core.Path.{_≡_, refl}
 use native.Mathlib.Omega.{arith}
 use borrow.Author.Needs.{needs}
 use borrow.Author.Tests.{not-true, not-false}
@@ -19,11 +19,8 @@ Inv-loop p from to i₀ i = (i ≤ to) × (find (fails (fits digit) p) from (to 
 abbrev μ-loop : tie.MeasureT-loop
 μ-loop p from to i₀ i = to - i
 
-digit-blocks-requires : tie.Need-digit-blocks-requires Inv-loop μ-loop
-digit-blocks-requires c κs = search needs
-
 loop-holds : tie.Need-loop-holds Inv-loop μ-loop
-loop-holds c = (c .digit-blocks .ensures .high, c .digit-blocks .ensures .left)
+loop-holds c = (omega arith, refl)
 
 shared-slice-read-is-digit : tie.Need-shared-slice-read-is-digit Inv-loop μ-loop
 shared-slice-read-is-digit c = omega arith
@@ -52,7 +49,6 @@ first-not-digit-spec =
     (tie.spec
     Inv-loop
     μ-loop
-    digit-blocks-requires
     loop-holds
     shared-slice-read-is-digit
     is-digit-requires

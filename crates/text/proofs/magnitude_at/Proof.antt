@@ -2,7 +2,7 @@
 -- Assumes nothing.
 use native.Mathlib.Omega.{arith}
 use borrow.Author.Needs.{needs}
-use Rattle.text.proofs.Numbers.{all-digits, blanks-is, ten-is, twenty-is}
+use Rattle.text.proofs.Numbers.{all-digits, ten-is, twenty-is}
 use Rattle.text.proofs.magnitude_at.Statement.{statement}
 use Rattle.text.proofs.magnitude_at.Tie as tie
 
@@ -28,35 +28,23 @@ returns : tie.Need-returns
 returns c =
     twenty-is _ _ _ _ _ _ (omega arith) (c .before .before .before .before .before .if1 .taken) (all-digits _ _ _ _ (c .before .before .before .before .digits-in .ensures) (c .before .before .before .if2 .taken)) (c .before .before .ten-digits .ensures .0) (c .before .ten-digits2 .ensures .0) (c .joined .ensures)
 
-blanks-in-requires : tie.Need-blanks-in-requires
-blanks-in-requires c κs = search needs
-
-returns-2 : tie.Need-returns-2
-returns-2 c = blanks-is _ _ _ 20 _ (omega arith) (c .before .before .before .before .if1 .taken) (c .before .blanks-in .ensures) (c .if3 .taken)
-
-sub-if4 : tie.Need-sub-if4
-sub-if4 c = search needs
+sub-if3 : tie.Need-sub-if3
+sub-if3 c = search needs
 
 digits-in-requires-2 : tie.Need-digits-in-requires-2
 digits-in-requires-2 c κs = search needs
 
 ten-digits-requires-3 : tie.Need-ten-digits-requires-3
-ten-digits-requires-3 c κs = (omega arith, all-digits _ _ _ _ (c .before .digits-in2 .ensures) (c .if5 .taken))
+ten-digits-requires-3 c κs = (omega arith, all-digits _ _ _ _ (c .before .digits-in2 .ensures) (c .if4 .taken))
 
-returns-3 : tie.Need-returns-3
-returns-3 c = ten-is _ _ _ _ (c .before .before .before .if4 .taken) (c .ten-digits3 .ensures)
-
-blanks-in-requires-2 : tie.Need-blanks-in-requires-2
-blanks-in-requires-2 c κs = search needs
-
-returns-4 : tie.Need-returns-4
-returns-4 c = blanks-is _ _ _ 10 _ (omega arith) (c .before .before .before .before .if4 .taken) (c .before .blanks-in2 .ensures) (c .if6 .taken)
+returns-2 : tie.Need-returns-2
+returns-2 c = ten-is _ _ _ _ (c .before .before .before .if3 .taken) (c .ten-digits3 .ensures)
 
 digits-at-requires : tie.Need-digits-at-requires
 digits-at-requires c κs = search needs
 
-returns-5 : tie.Need-returns-5
-returns-5 c = search needs
+returns-3 : tie.Need-returns-3
+returns-3 c = search needs
 
 pub magnitude-at-spec : {M : Type 1} → statement M
 magnitude-at-spec =
@@ -69,13 +57,9 @@ magnitude-at-spec =
     ten-digits-requires-2
     joined-requires
     returns
-    blanks-in-requires
-    returns-2
-    sub-if4
+    sub-if3
     digits-in-requires-2
     ten-digits-requires-3
-    returns-3
-    blanks-in-requires-2
-    returns-4
+    returns-2
     digits-at-requires
-    returns-5)
+    returns-3)

@@ -1,11 +1,11 @@
--- `text::plain_blocks` meets its contract: each block is skipped whole, and the last ends with the run.
+-- `text::plain_blocks` meets its contract: each block is skipped whole.
 -- Assumes nothing.
 use Prim.Native.Nat.{_-_}
 use native.Mathlib.Omega.{arith}
 use borrow.Author.Tests.{not-false}
 use Rattle.layout.specs.Text.{plain, fits}
 use Rattle.text.specs.Runs.{fails, Skipped}
-use Rattle.text.proofs.Runs.{skipped-first, skipped-block, skipped-last}
+use Rattle.text.proofs.Runs.{skipped-first, skipped-block}
 use Rattle.text.proofs.plain_blocks.Statement.{statement}
 use Rattle.text.proofs.plain_blocks.Tie as tie
 
@@ -14,12 +14,6 @@ Inv-loop p from to i₀ i = Skipped (fails (fits plain) p) from to i
 
 abbrev μ-loop : tie.MeasureT-loop
 μ-loop p from to i₀ i = to - i
-
-sub-if1 : tie.Need-sub-if1 Inv-loop μ-loop
-sub-if1 c = omega arith
-
-returns : tie.Need-returns Inv-loop μ-loop
-returns c = skipped-first _ _ _ (omega arith)
 
 loop-holds : tie.Need-loop-holds Inv-loop μ-loop
 loop-holds c = skipped-first _ _ _ (omega arith)
@@ -30,8 +24,8 @@ sub-loop c = omega arith
 plain-in-requires : tie.Need-plain-in-requires Inv-loop μ-loop
 plain-in-requires c κs = omega arith
 
-returns-2 : tie.Need-returns-2 Inv-loop μ-loop
-returns-2 c = c .before .before .before .loop .inv
+returns : tie.Need-returns Inv-loop μ-loop
+returns c = c .before .before .before .loop .inv
 
 add-i : tie.Need-add-i Inv-loop μ-loop
 add-i c = omega arith
@@ -40,19 +34,10 @@ loop-less : tie.Need-loop-less Inv-loop μ-loop
 loop-less c = omega arith
 
 loop-again : tie.Need-loop-again Inv-loop μ-loop
-loop-again c = skipped-block _ _ _ _ (c .before .before .before .loop .inv) _ 16 (omega arith) (c .before .plain-in .ensures) (not-false _ (c .if2 .left))
+loop-again c = skipped-block _ _ _ _ (c .before .before .before .loop .inv) _ 16 (omega arith) (c .before .plain-in .ensures) (not-false _ (c .if1 .left))
 
-sub-plain-in : tie.Need-sub-plain-in Inv-loop μ-loop
-sub-plain-in c = omega arith
-
-plain-in-requires-2 : tie.Need-plain-in-requires-2 Inv-loop μ-loop
-plain-in-requires-2 c κs = omega arith
-
-returns-3 : tie.Need-returns-3 Inv-loop μ-loop
-returns-3 c = skipped-last _ _ _ _ (c .before .before .before .loop .inv) _ 16 (omega arith) (omega arith) (c .before .plain-in2 .ensures) (c .if3 .taken)
-
-returns-4 : tie.Need-returns-4 Inv-loop μ-loop
-returns-4 c = c .before .before .before .loop .inv
+returns-2 : tie.Need-returns-2 Inv-loop μ-loop
+returns-2 c = c .before .loop .inv
 
 pub plain-blocks-spec : {M : Type 1} → statement M
 plain-blocks-spec =
@@ -60,16 +45,11 @@ plain-blocks-spec =
     (tie.spec
     Inv-loop
     μ-loop
-    sub-if1
-    returns
     loop-holds
     sub-loop
     plain-in-requires
-    returns-2
+    returns
     add-i
     loop-less
     loop-again
-    sub-plain-in
-    plain-in-requires-2
-    returns-3
-    returns-4)
+    returns-2)

@@ -1,73 +1,88 @@
--- `text::ten_digits` meets its contract: the digits left, behind the value so far, are all ten.
+-- `text::ten_digits` meets its contract: five pairs are the ten digits.
 -- Assumes nothing.
-use Prim.Native.Nat.{_+_, _-_, _^_, _≤_, _<_}
-use mathlib.Core.Path.{_≡_, refl, _∙_}
-use native.Mathlib.Nat.{sub-self}
 use native.Mathlib.Omega.{arith}
-use Rattle.layout.specs.Bytes.{part, byteAt}
-use Rattle.layout.specs.Text.{digits}
-use Rattle.text.proofs.Numbers.{ten-room, ten-next, digit-after, ten-end}
+use borrow.Author.Needs.{needs}
+use Rattle.text.proofs.Numbers.{pairs-are}
 use Rattle.text.proofs.ten_digits.Statement.{statement}
 use Rattle.text.proofs.ten_digits.Tie as tie
 
-abbrev Inv-loop : tie.InvT-loop
-Inv-loop p at end value₀ i₀ value i =
-    (at ≤ i) × (i ≤ at + 10) × (value < 10 ^ (i - at)) × (digits 0 (part p at (at + 10 - at)) ≡ digits value (part p i (at + 10 - i)))
+two-digits-requires : tie.Need-two-digits-requires
+two-digits-requires c κs = (omega arith, λ k l u. c .before .pre .1 k (omega arith) (omega arith))
 
-abbrev μ-loop : tie.MeasureT-loop
-μ-loop p at end value₀ i₀ value i = end - i
+mul-high : tie.Need-mul-high
+mul-high c = search needs
 
-add-end : tie.Need-add-end Inv-loop μ-loop
-add-end c = omega arith
+add-two-digits : tie.Need-add-two-digits
+add-two-digits c = search needs
 
-loop-holds : tie.Need-loop-holds Inv-loop μ-loop
-loop-holds c = (omega arith, omega arith, rw (sub-self (c .before .args .at)) (omega arith), refl)
+two-digits-requires-2 : tie.Need-two-digits-requires-2
+two-digits-requires-2 c κs = (omega arith, λ k l u. c .before .before .pre .1 k (omega arith) (omega arith))
 
-mul-value : tie.Need-mul-value Inv-loop μ-loop
-mul-value c = omega (arith, ten-room _ _ (c .before .loop .inv .2) (omega arith))
+mul-high-2 : tie.Need-mul-high-2
+mul-high-2 c = search needs
 
-shared-slice-read-value-of : tie.Need-shared-slice-read-value-of Inv-loop μ-loop
-shared-slice-read-value-of c = omega arith
+add-high : tie.Need-add-high
+add-high c = search needs
 
-value-of-requires : tie.Need-value-of-requires Inv-loop μ-loop
-unfolding byteAt
-value-of-requires c κs = c .before .before .before .before .pre .1 _ (omega arith) (omega arith)
+add-two-digits-2 : tie.Need-add-two-digits-2
+add-two-digits-2 c = search needs
 
-add-value : tie.Need-add-value Inv-loop μ-loop
-add-value c = omega (arith, ten-room _ _ (c .before .before .before .loop .inv .2) (omega arith))
+two-digits-requires-3 : tie.Need-two-digits-requires-3
+two-digits-requires-3 c κs = (omega arith, λ k l u. c .before .before .before .pre .1 k (omega arith) (omega arith))
 
-add-i : tie.Need-add-i Inv-loop μ-loop
-add-i c = omega arith
+add-high-2 : tie.Need-add-high-2
+add-high-2 c = search needs
 
-loop-less : tie.Need-loop-less Inv-loop μ-loop
-loop-less c = omega arith
+add-two-digits-3 : tie.Need-add-two-digits-3
+add-two-digits-3 c = search needs
 
-loop-again : tie.Need-loop-again Inv-loop μ-loop
-loop-again c =
-    let turn = c .before .before .before .loop in (
+two-digits-requires-4 : tie.Need-two-digits-requires-4
+two-digits-requires-4 c κs = (omega arith, λ k l u. c .before .before .before .before .pre .1 k (omega arith) (omega arith))
+
+mul-low : tie.Need-mul-low
+mul-low c = search needs
+
+add-two-digits-4 : tie.Need-add-two-digits-4
+add-two-digits-4 c = search needs
+
+two-digits-requires-5 : tie.Need-two-digits-requires-5
+two-digits-requires-5 c κs = (omega arith, λ k l u. c .before .before .before .before .before .pre .1 k (omega arith) (omega arith))
+
+add-low : tie.Need-add-low
+add-low c = search needs
+
+mul-result : tie.Need-mul-result
+mul-result c = search needs
+
+add-result : tie.Need-add-result
+add-result c = search needs
+
+returns : tie.Need-returns
+returns c =
+    let entry = c .before .before .before .before .before .before in (
+      pairs-are _ (entry .args .at) _ _ _ _ _ (entry .pre .0) (entry .pre .1) (c .before .before .before .before .two-digits .ensures .0) (c .before .before .before .two-digits2 .ensures .0) (c .before .before .two-digits3 .ensures .0) (c .before .two-digits4 .ensures .0) (c .two-digits5 .ensures .0),
       omega arith,
-      omega arith,
-      ten-next _ _ _ _ (omega arith) (turn .inv .2) (c .value-of .ensures .1),
-      turn .inv .3
-          ∙ digit-after _ _ _ _ _ (omega arith) (omega arith) (c .before .before .before .before .before .pre .1 _ (omega arith) (omega arith)) (c .value-of .ensures .0),
     )
-
-returns : tie.Need-returns Inv-loop μ-loop
-returns c = ten-end _ _ _ _ (omega arith) (omega arith) (c .before .loop .inv .2) (c .before .loop .inv .3)
 
 pub ten-digits-spec : {M : Type 1} → statement M
 ten-digits-spec =
     tie.close
     (tie.spec
-    Inv-loop
-    μ-loop
-    add-end
-    loop-holds
-    mul-value
-    shared-slice-read-value-of
-    value-of-requires
-    add-value
-    add-i
-    loop-less
-    loop-again
+    two-digits-requires
+    mul-high
+    add-two-digits
+    two-digits-requires-2
+    mul-high-2
+    add-high
+    add-two-digits-2
+    two-digits-requires-3
+    add-high-2
+    add-two-digits-3
+    two-digits-requires-4
+    mul-low
+    add-two-digits-4
+    two-digits-requires-5
+    add-low
+    mul-result
+    add-result
     returns)

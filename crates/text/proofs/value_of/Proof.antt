@@ -2,7 +2,6 @@
 -- Assumes nothing.
 use mathlib.Core.Path.{refl}
 use native.Mathlib.Omega.{arith}
-use borrow.Author.Needs.{needs}
 use Rattle.text.proofs.Tests.{digit-bounds}
 use Rattle.text.proofs.value_of.Statement.{statement}
 use Rattle.text.proofs.value_of.Tie as tie
@@ -10,11 +9,8 @@ use Rattle.text.proofs.value_of.Tie as tie
 sub-result : tie.Need-sub-result
 sub-result c = omega (arith, digit-bounds (c .args .x) (c .pre) .0)
 
-cast-result : tie.Need-cast-result
-cast-result c = search needs
-
 returns : tie.Need-returns
 returns c = (refl, omega (arith, digit-bounds (c .args .x) (c .pre) .1))
 
 pub value-of-spec : {M : Type 1} → statement M
-value-of-spec = tie.close (tie.spec sub-result cast-result returns)
+value-of-spec = tie.close (tie.spec sub-result returns)
