@@ -1,6 +1,7 @@
 -- The rules in the order in which the code checks them, and what opening answers at each.
 -- Assumes nothing.
 use Prim.Native.Nat.{ℕ, _*_, _-_, _≤_, min}
+use mathlib.Core.Bool.{false}
 use mathlib.Core.List.{List}
 use mathlib.Core.Path.{_≡_, refl, sym, ap, _∙_, subst}
 use native.Mathlib.Omega.{arith}
@@ -23,9 +24,10 @@ use Rattle.directory.specs.Checks.{Headers, SparesByFirst, Counted, textRules, 
 use Rattle.directory.specs.declared.Reading.{Reading}
 use Rattle.directory.specs.declared.Sets.{Sets}
 use Rattle.directory.proofs.Rules.{dsds-of, spares-by-first, rules-split, the-directory, numbers-read, places-are}
-use Rattle.states.specs.Laid.{Laid, Every}
-use Rattle.states.proofs.Fits.{fitting, laid}
-use Rattle.opening.specs.Opening.{longestHeaders, frontRules, setRules, Fronted, FrontChecked, SetsRead, closed, Opened}
+use Rattle.states.specs.Laid.{Fitting, Laid, Every}
+use Rattle.states.specs.Roles.{hasVariable}
+use Rattle.states.proofs.Fits.{fitting, laid, no-variable}
+use Rattle.opening.specs.Opening.{longestHeaders, frontRules, setRules, Fronted, FrontChecked, SetsRead, HeadersChecked, closed, Opened}
 use Rattle.opening.specs.declared.Opening.{Opening}
 
 -- ---- rules 1 to 8
@@ -87,13 +89,17 @@ module _ (b : List ℕ) (n : ℕ) where
   unfolding headerRules frontRules setRules
   headers-split = rw (rules-split b n) (sym (simp orElse-assoc))
 
-  stops : (r : Refusal) (x : Opening) → x ≡ closed r → headerRules b n ≡ refused (r .number) (r .place) (r .entry) → Opened b n x
-  unfolding verdictIs
-  stops r x q h = rw q (record { judged = sym h; begin = λ e. absurd (accepted≢refused (sym e ∙ h)); held = λ e. absurd (accepted≢refused (sym e ∙ h)); nothing = λ e. (refl, refl) })
-
   module _ (front : HeaderCheck) (checked : FrontChecked b n front) where
-    pub front-refused : (r : Refusal) (x : Opening) → x ≡ closed r → front .verdict ≡ Refused r → Opened b n x
-    front-refused r x q h = stops r x q (headers-split ∙ rw (told-refused (front .verdict) r (frontRules b n) h (checked .judged)))
+    -- the arrays are what they may be
+    pub front-refused : (sets : Sets) (r : Refusal) → front .verdict ≡ Refused r → HeadersChecked b n front sets
+    front-refused sets r h =
+        let q = told-refused (front .verdict) r (frontRules b n) h (checked .judged) in
+        let all : headerRules b n ≡ refused (r .number) (r .place) (r .entry) = headers-split ∙ rw q in
+        record {
+          judged = checked .judged ∙ q ∙ sym all;
+          headers = λ e. absurd (accepted≢refused (sym e ∙ all));
+          held = λ e. absurd (accepted≢refused (sym e ∙ all));
+        }
 
     module _ (good : front .verdict ≡ Accepted) where
       pub fronted : Fronted b n front
@@ -118,47 +124,70 @@ module _ (b : List ℕ) (n : ℕ) where
         pub sets-read : SetsRead (directory b) reading (sets .offsets) (sets .sizes)
         sets-read = record { read = record { counted = of-directory; held = ap (λ (s : Sets). s .offsets) held-are }; extents = ap (λ (s : Sets). s .sizes) held-are }
 
-        module _ (v : Verdict) (by-sets : verdictIs v ≡ setRules b n) where
-          pub sets-refused : (r : Refusal) (x : Opening) → x ≡ closed r → v ≡ Refused r → Opened b n x
-          sets-refused r x q h = stops r x q (headers-split ∙ rw (fronted .rules, told-refused v r (setRules b n) h by-sets))
+        are : setRules b n ≡ accepted → sets ≡ setsOf (directory b)
+        unfolding setRules
+        are rules =
+            held-are
+            ∙ numbers-read b (front .«headers_end») (front .entries) (fronted .headers) n (text b n front fronted) reading of-directory
+            (orElse-accepts (numberRules b n) (placeRules (directory b) (headersEnd b) n) .0 rules .0)
 
-          module _ (fine : v ≡ Accepted) where
-            set-rules : setRules b n ≡ accepted
-            set-rules = told-accepted v (setRules b n) fine by-sets
+        pub sets-checked : (v : Verdict) → verdictIs v ≡ setRules b n
+            → HeadersChecked b n (record { verdict = v; «headers_end» = front .«headers_end»; entries = front .entries }) sets
+        sets-checked v by-sets = record {
+          judged = by-sets ∙ sym set-rules;
+          headers = λ e. fronted .headers;
+          held = λ e. are (sym set-rules ∙ e);
+        }
+          where
+            set-rules : headerRules b n ≡ setRules b n
+            set-rules = headers-split ∙ rw (fronted .rules)
 
-            headers-hold : headerRules b n ≡ accepted
-            headers-hold = headers-split ∙ rw (fronted .rules, set-rules)
+-- ---- with the numbers
 
-            are : sets ≡ setsOf (directory b)
-            unfolding setRules
-            are =
-                held-are
-                ∙ numbers-read b (front .«headers_end») (front .entries) (fronted .headers) n (text b n front fronted) reading of-directory
-                (orElse-accepts (numberRules b n) (placeRules (directory b) (headersEnd b) n) .0 set-rules .0)
+module _ (b : List ℕ) (n : ℕ) (headers : HeaderCheck) (sets : Sets) (checked : HeadersChecked b n headers sets) where
+  pub stops : (r : Refusal) (x : Opening) → x ≡ closed r → headers .verdict ≡ Refused r → Opened b n x
+  unfolding verdictIs
+  stops r x q h =
+      let all = told-refused (headers .verdict) r (headerRules b n) h (checked .judged) in
+      rw q (record { judged = sym all; begin = λ e. absurd (accepted≢refused (sym e ∙ all)); held = λ e. absurd (accepted≢refused (sym e ∙ all)); nothing = λ e. (refl, refl) })
 
-            pub all-passed : (answer : Sets) → answer ≡ sets → Opened b n (record { verdict = Accepted; dsds = front .«headers_end» - 280 * front .entries; sets = answer })
-            unfolding verdictIs
-            all-passed answer c = record {
-              judged = sym headers-hold;
-              begin = λ e. dsds-of (fronted .headers) .begin;
-              held = λ e. c ∙ are;
-              nothing = λ f. absurd (f headers-hold);
-            }
+  module _ (good : headers .verdict ≡ Accepted) where
+    fourteen : headerRules b n ≡ accepted
+    fourteen = told-accepted (headers .verdict) (headerRules b n) good (checked .judged)
+
+    pub headers-are : Headers b (headers .«headers_end») (headers .entries)
+    headers-are = checked .headers fourteen
+
+    pub opens : (answer : Sets) → answer ≡ sets → Opened b n (record { verdict = Accepted; dsds = headers .«headers_end» - 280 * headers .entries; sets = answer })
+    unfolding verdictIs
+    opens answer c = record {
+      judged = sym fourteen;
+      begin = λ e. dsds-of headers-are .begin;
+      held = λ e. c ∙ checked .held e;
+      nothing = λ f. absurd (f fourteen);
+    }
 
 -- ---- and rules 15 and 16
 
-module _ (b : List ℕ) (x : Opening) (o : Opened b (length b) x) where
-  pub headers-refused : (r : Refusal) → x .verdict ≡ Refused r → verdictIs (x .verdict) ≡ verdict b
+module _ (b : List ℕ) (first : Verdict) (sets : Sets) (judged : verdictIs first ≡ headerRules b (length b)) (held : headerRules b (length b) ≡ accepted → sets ≡ setsOf (directory b)) where
+  pub headers-refused : (r : Refusal) → first ≡ Refused r → verdictIs first ≡ verdict b
   unfolding verdict verdictFrom
-  headers-refused r h = o .judged ∙ rw (told-refused (x .verdict) r (headerRules b (length b)) h (o .judged))
+  headers-refused r h = judged ∙ rw (told-refused first r (headerRules b (length b)) h judged)
 
-  module _ (good : x .verdict ≡ Accepted) where
-    fourteen : headerRules b (length b) ≡ accepted
-    fourteen = told-accepted (x .verdict) (headerRules b (length b)) good (o .judged)
+  module _ (good : first ≡ Accepted) where
+    all-fourteen : headerRules b (length b) ≡ accepted
+    all-fourteen = told-accepted first (headerRules b (length b)) good judged
 
-    pub numbers-laid : Laid (x .sets) (length b)
-    numbers-laid = laid b (length b) (x .sets) fourteen (o .held fourteen)
+    fits : Fitting (directory b) (length b)
+    fits = fitting b (length b) (headed b (length b) all-fourteen)
 
-    pub by-states : (v : Verdict) → Every (x .sets) (λ ds. verdictIs v ≡ stateRules ds (tallyOf (statesOf b ds))) → verdictIs v ≡ verdict b
+    pub numbers-laid : Laid sets (length b)
+    numbers-laid = laid b (length b) sets all-fourteen (held all-fourteen)
+
+    pub by-states : (v : Verdict) → Every sets (λ ds. verdictIs v ≡ stateRules ds (tallyOf (statesOf b ds))) → verdictIs v ≡ verdict b
     unfolding verdict verdictFrom
-    by-states v every = every (directory b) (length b) (o .held fourteen) (fitting b (length b) (headed b (length b) fourteen)) ∙ rw fourteen
+    by-states v every = every (directory b) (length b) (held all-fourteen) fits ∙ rw all-fourteen
+
+    pub not-variable : hasVariable (sets .roles) (sets .entries) ≡ false → accepted ≡ verdict b
+    unfolding verdict verdictFrom
+    not-variable h = sym (rw all-fourteen (no-variable sets (directory b) (length b) (held all-fourteen) fits _ h))

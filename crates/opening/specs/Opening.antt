@@ -13,6 +13,7 @@ use Rattle.header.specs.declared.HeaderCheck.{HeaderCheck}
 use Rattle.directory.specs.Numbers.{setsOf, noSets, heldSets}
 use Rattle.directory.specs.Checks.{Headers, ReadFrom, textRules, numberRules, placeRules}
 use Rattle.directory.specs.declared.Reading.{Reading}
+use Rattle.directory.specs.declared.Sets.{Sets}
 use Rattle.opening.specs.declared.Opening.{Opening}
 
 -- the main header, and the longest SPH that rule 6 allows
@@ -44,6 +45,12 @@ pub record FrontChecked (b : List ℕ) (n : ℕ) (r : HeaderCheck) : Type 0 wher
 pub record SetsRead (ds : List Entry) (r : Reading) (offsets sizes : List ℕ) : Type 0 where
   pub read : ReadFrom ds r offsets
   pub extents : sizes ≡ heldSets ds .sizes
+
+-- the answer of rules 1 to 14; where it accepts, where the headers end and the numbers of the directory
+pub record HeadersChecked (b : List ℕ) (n : ℕ) (r : HeaderCheck) (sets : Sets) : Type 0 where
+  pub judged : verdictIs (r .verdict) ≡ headerRules b n
+  pub headers : headerRules b n ≡ accepted → Headers b (r .«headers_end») (r .entries)
+  pub held : headerRules b n ≡ accepted → sets ≡ setsOf (directory b)
 
 -- a refusal, and nothing beside it
 abbrev pub closed : Refusal → Opening

@@ -21,8 +21,7 @@ use values::MainHeader;
 pub fn judge(p: &[u8]) -> Verdict
     ensures { λ r. ⌜ verdictIs r ≡ verdict (now (p .entry)) ⌝ }
 {
-    let opened = opening::open_headers(p, p.len() as u64);
-    opening::judge_opened(p, opened)
+    opening::judge_product(p)
 }
 
 // The directory beside the verdict.
@@ -50,8 +49,7 @@ pub fn header_values(p: &[u8]) -> HeaderAnswer
     ensures judged { λ r. ⌜ verdictIs (r .verdict) ≡ verdict (now (p .entry)) ⌝ }
     ensures valued { λ r. ⌜ r .header ≡ headerFor (verdict (now (p .entry))) (now (p .entry)) ⌝ }
 {
-    let opened = opening::open_headers(p, p.len() as u64);
-    let verdict = opening::judge_opened(p, opened);
+    let verdict = opening::judge_product(p);
     if let Verdict::Refused(refusal) = verdict {
         return HeaderAnswer {
             verdict: Verdict::Refused(refusal),
