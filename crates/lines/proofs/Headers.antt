@@ -1,4 +1,4 @@
--- What the first bad place of a whole header says: the answer of its layout, for the main header and for a DSD.
+-- What the first bad place of a whole header says: the answer of its layout, for the main header, for a DSD and for one DSD after another.
 -- Assumes nothing.
 use Prim.Native.Nat.{ℕ, suc, _+_, _*_, _-_, _≤_, _<_}
 use mathlib.Core.Bool.{Bool, true, false, cond}
@@ -11,12 +11,13 @@ use lib.ListN.{length, take, drop, getD, length-drop}
 use lib.Seq.{drop-cons, getD-take, getD-drop, length-take-le}
 use borrow.Author.Tests.{eq-eqb, ne-eqb}
 use Rattle.layout.specs.Bytes.{part, byteAt}
-use Rattle.layout.specs.Text.{Class, fits, layout, lineClasses, valueClasses}
+use Rattle.layout.specs.Text.{Class, fits, layout}
 use Rattle.layout.specs.Lines.{sizeOfDsd, dsd, spareDsd}
 use Rattle.layout.specs.Rules.{linesOf}
 use Rattle.layout.specs.Answer.{Answer, accepted, refused, need, _orElse_}
 use Rattle.layout.specs.Search.{first, laidOut}
 use Rattle.layout.proofs.Laws.{first-step, laidOut-take}
+use Rattle.layout.proofs.Starts.{dsd-length, spare-length}
 use Rattle.text.proofs.Parts.{byte-part}
 use Rattle.lines.specs.Table.{badPlace, badInDsd, rule8From}
 use Rattle.lines.proofs.Spans.{bad-bounds}
@@ -83,21 +84,13 @@ module _ (b : List ℕ) (at : ℕ) where
 
 -- ---- rule 8
 
-spare-size : length (layout spareDsd) ≡ sizeOfDsd
-unfolding layout spareDsd lineClasses
-spare-size = refl
-
-dsd-size : length (layout dsd) ≡ sizeOfDsd
-unfolding layout dsd lineClasses valueClasses
-dsd-size = refl
-
 lines-long : (d : List ℕ) → length (layout (linesOf d)) ≡ sizeOfDsd
 unfolding linesOf
 lines-long d = go (eqb (byteAt d 0) 32)
   where
     go : (t : Bool) → length (layout (cond t spareDsd dsd)) ≡ sizeOfDsd
-    go true = spare-size
-    go false = dsd-size
+    go true = spare-length
+    go false = dsd-length
 
 -- r is the first bad place of DSD i
 pub dsd-answer : (b : List ℕ) (from i r : ℕ) → r ≡ badInDsd b (from + sizeOfDsd * i) → from + sizeOfDsd * i + sizeOfDsd ≤ length b

@@ -1,10 +1,10 @@
 -- Bytes between the lowest and the highest that may stand at their places are as laid out, where the two tables are as strict as the layout.
 -- Assumes nothing.
 use Prim.Native.Nat.{ℕ, zero, suc, _+_, _≤_, _<_, suc-le-suc}
-use mathlib.Core.Bool.{Bool, true, false, _&&_, not}
+use mathlib.Core.Bool.{Bool, true, _&&_, not}
 use mathlib.Core.List.{List, [], _∷_}
 use mathlib.Core.Logic.{⊎-elim}
-use mathlib.Core.Path.{_≡_, refl, sym, ap}
+use mathlib.Core.Path.{_≡_, sym}
 use native.Mathlib.Omega.{arith}
 use native.Mathlib.Nat.{add-zero, zero-add, add-suc, suc-add}
 use lib.Dec.{T, eqb, leb, eqb→eq, leb→le}
@@ -81,16 +81,16 @@ narrow-fits (among ys) lo hi x h w =
 -- ---- a header
 
 -- each byte of the n from `at` on may stand at its place
-abbrev Stand : List ℕ → List ℕ → List ℕ → ℕ → ℕ → Type 0
-Stand lowest highest b at n = (j : ℕ) → j < n → T (mayStand (getD lowest j 0) (getD highest j 0) (byteAt b (at + j)))
+record Stand (lowest highest b : List ℕ) (at n : ℕ) : Type 0 where
+  each : (j : ℕ) → j < n → T (mayStand (getD lowest j 0) (getD highest j 0) (byteAt b (at + j)))
 
 -- the first of them, and those behind it
-module _ (lo hi : ℕ) (lowest highest b : List ℕ) (at : ℕ) (k : Class) (ks : List Class) (all : Stand (lo ∷ lowest) (hi ∷ highest) b at (length (k ∷ ks))) where
+module _ {lo hi : ℕ} {lowest highest b : List ℕ} {at : ℕ} (k : Class) (ks : List Class) (all : Stand (lo ∷ lowest) (hi ∷ highest) b at (length (k ∷ ks))) where
   here : T (narrow k lo hi) → fits k (byteAt b at) ≡ true
-  here h = narrow-fits k lo hi (byteAt b at) h (standing lo hi (byteAt b at) (rw (add-zero at) at (all 0 (omega arith))))
+  here h = narrow-fits k lo hi (byteAt b at) h (standing lo hi (byteAt b at) (rw (add-zero at) at (all .each 0 (omega arith))))
 
   behind : Stand lowest highest b (suc at) (length ks)
-  behind j l = rw (suc-add at j, ← add-suc at j) (all (suc j) (suc-le-suc l))
+  behind = record { each = λ j l. rw (suc-add at j, ← add-suc at j) (all .each (suc j) (suc-le-suc l)) }
 
   both : fits k (byteAt b at) ≡ true → suc at + length ks ≡ badPlace ks b (suc at) → at + length (k ∷ ks) ≡ badPlace (k ∷ ks) b at
   unfolding badPlace
@@ -103,8 +103,8 @@ strict-laid (k ∷ ks) [] highest b at h all = absurd h
 strict-laid (k ∷ ks) (lo ∷ lowest) [] b at h all = absurd h
 strict-laid (k ∷ ks) (lo ∷ lowest) (hi ∷ highest) b at h all =
     let g = and-T (narrow k lo hi) (strict ks lowest highest) .0 h in
-    both lo hi lowest highest b at k ks all (here lo hi lowest highest b at k ks all (g .0))
-    (strict-laid ks lowest highest b (suc at) (g .1) (behind lo hi lowest highest b at k ks all))
+    both k ks all (here k ks all (g .0))
+    (strict-laid ks lowest highest b (suc at) (g .1) (behind k ks all))
 
 strict-but-laid : (m : ℕ) (ks : List Class) (lowest highest b : List ℕ) (at : ℕ) → T (strictBut m ks lowest highest) → Stand lowest highest b at (length ks)
     → fits (getD ks m plain) (byteAt b (at + m)) ≡ true → at + length ks ≡ badPlace ks b at
@@ -113,22 +113,24 @@ strict-but-laid m [] lowest highest b at h all good = add-zero at
 strict-but-laid m (k ∷ ks) [] highest b at h all good = absurd h
 strict-but-laid m (k ∷ ks) (lo ∷ lowest) [] b at h all good = absurd h
 strict-but-laid zero (k ∷ ks) (lo ∷ lowest) (hi ∷ highest) b at h all good =
-    both lo hi lowest highest b at k ks all (rw (add-zero at) at good) (strict-laid ks lowest highest b (suc at) h (behind lo hi lowest highest b at k ks all))
+    both k ks all (rw (add-zero at) at good) (strict-laid ks lowest highest b (suc at) h (behind k ks all))
 strict-but-laid (suc m) (k ∷ ks) (lo ∷ lowest) (hi ∷ highest) b at h all good =
     let g = and-T (narrow k lo hi) (strictBut m ks lowest highest) .0 h in
-    both lo hi lowest highest b at k ks all (here lo hi lowest highest b at k ks all (g .0))
-    (strict-but-laid m ks lowest highest b (suc at) (g .1) (behind lo hi lowest highest b at k ks all) (rw (suc-add at m, ← add-suc at m) good))
+    both k ks all (here k ks all (g .0))
+    (strict-but-laid m ks lowest highest b (suc at) (g .1) (behind k ks all) (rw (suc-add at m, ← add-suc at m) good))
 
 -- r is what the test of the bytes as a whole answers
 module _ (lowest highest b : List ℕ) (at n : ℕ) (r : Bool) (found : r ≡ not (some (misplaced lowest highest b at) 0 n)) (h : r ≡ true) where
-  stand : Stand lowest highest b at n
+  stand : (m : ℕ) → n ≡ m → Stand lowest highest b at m
   unfolding misplaced byteAt
-  stand j l = rw (not-false (mayStand (getD lowest j 0) (getD highest j 0) (getD b (at + j) 0)) (tested (misplaced lowest highest b at) n 0 r found h j (omega arith) (omega arith))) tt
+  stand m q = record {
+    each = λ j l. rw (not-false (mayStand (getD lowest j 0) (getD highest j 0) (getD b (at + j) 0)) (tested (misplaced lowest highest b at) n 0 r found h j (omega arith) (omega arith))) tt;
+  }
 
   pub laid-whole : (ks : List Class) → n ≡ length ks → T (strict ks lowest highest) → at + n ≡ badPlace ks b at
-  laid-whole ks q tight = rw q (strict-laid ks lowest highest b at tight (λ j l. stand j (omega arith)))
+  laid-whole ks q tight = rw q (strict-laid ks lowest highest b at tight (stand (length ks) q))
 
   -- a DSD, whose type is good
   pub dsd-laid : DsdRanges lowest highest → n ≡ sizeOfDsd → fits (among (bytes "MAGR")) (getD b (at + 47) 0) ≡ true → at + sizeOfDsd ≡ badPlace (layout dsd) b at
   unfolding byteAt placeOf quoteWidth layout dsd lineClasses valueClasses
-  dsd-laid ranges q good = strict-but-laid 47 (layout dsd) lowest highest b at (ranges .tight) (λ j l. stand j (omega arith)) good
+  dsd-laid ranges q good = strict-but-laid 47 (layout dsd) lowest highest b at (ranges .tight) (stand sizeOfDsd q) good

@@ -5,25 +5,6 @@ mod tables;
 
 use dsd::Entry;
 use layout::Verdict;
-use tables::DSD_HIGHEST;
-use tables::DSD_KEYS;
-use tables::DSD_KINDS;
-use tables::DSD_LOWEST;
-use tables::DSD_STARTS;
-use tables::DSD_TYPE_AT;
-use tables::DSD_WIDTHS;
-use tables::FLAG;
-use tables::MPH_HIGHEST;
-use tables::MPH_KEYS;
-use tables::MPH_KINDS;
-use tables::MPH_LOWEST;
-use tables::MPH_STARTS;
-use tables::MPH_WIDTHS;
-use tables::SPARE;
-use tables::TEXT;
-use tables::THOUSANDTHS;
-use tables::TYPE;
-use tables::WHOLE;
 use values::MainHeader;
 ghost use mathlib.Core.Path.{_≡_};
 ghost use Prim.Native.Nat.{_+_, _*_, _-_, _≤_, _<_};
@@ -140,28 +121,28 @@ fn value_check(p: &[u8], from: usize, kind: u8, to: usize) -> usize
     requires { ⌜ (from ≤ to) × (to ≤ length (now p)) × T (widthFits kind (to - from)) ⌝ }
     ensures { λ r. ⌜ r ≡ badPlace (valueLaid kind (to - from)) (now (p .entry)) from ⌝ }
 {
-    if kind == TEXT {
+    if kind == tables::TEXT {
         return text::first_not_plain(p, from, to);
     }
-    if kind == SPARE {
+    if kind == tables::SPARE {
         return text::first_not_blank(p, from, to);
     }
-    if kind == FLAG {
+    if kind == tables::FLAG {
         if is_flag(p[from]) {
             return to;
         }
         return from;
     }
-    if kind == TYPE {
+    if kind == tables::TYPE {
         if is_type(p[from]) {
             return to;
         }
         return from;
     }
-    if kind == WHOLE {
+    if kind == tables::WHOLE {
         return whole_check(p, from, to);
     }
-    if kind == THOUSANDTHS {
+    if kind == tables::THOUSANDTHS {
         return decimal_check(p, from, to - 4, to);
     }
     decimal_check(p, from, to - 7, to)
@@ -230,8 +211,8 @@ fn lines_check(
     literal_span(p, template, from, template.len())
 }
 
-// The bytes of `p` from `at` on lie between the lowest and the highest, each as it may stand there. They are tested as a whole, without an exit, so that
-// they are tested side by side.
+// The bytes of `p` from `at` on lie between the lowest and the highest that may stand at their places. A quote stands only where one is asked for, and
+// between + and - lies a comma. They are tested as a whole, without an exit, so that they are tested side by side.
 fn laid_in(p: &[u8], at: usize, lowest: &[u8], highest: &[u8]) -> bool
     requires { ⌜ (at + length (now lowest) ≤ length (now p)) × (length (now lowest) ≤ length (now highest)) ⌝ }
     ensures { λ r. ⌜ r ≡ not (some (misplaced (now (lowest .entry)) (now (highest .entry)) (now (p .entry)) at) 0 (length (now (lowest .entry)))) ⌝ }
@@ -255,16 +236,16 @@ pub fn main_header_check(p: &[u8]) -> usize
     requires { ⌜ sizeOfMph ≤ length (now p) ⌝ }
     ensures { λ r. ⌜ laidOut 3 128 0 (layout mph) (now (p .entry)) ≡ need (eqb r sizeOfMph) 3 r 128 ⌝ }
 {
-    if laid_in(p, 0, &MPH_LOWEST, &MPH_HIGHEST) {
+    if laid_in(p, 0, &tables::MPH_LOWEST, &tables::MPH_HIGHEST) {
         return MainHeader::SIZE;
     }
     lines_check(
         p,
-        &MPH_LOWEST,
-        &MPH_STARTS,
-        &MPH_KEYS,
-        &MPH_KINDS,
-        &MPH_WIDTHS,
+        &tables::MPH_LOWEST,
+        &tables::MPH_STARTS,
+        &tables::MPH_KEYS,
+        &tables::MPH_KINDS,
+        &tables::MPH_WIDTHS,
     )
 }
 
@@ -276,11 +257,11 @@ fn dsd_lines(p: &[u8], at: usize) -> usize
     let end = at + Entry::SIZE;
     let bad = lines_check(
         &p[at..end],
-        &DSD_LOWEST,
-        &DSD_STARTS,
-        &DSD_KEYS,
-        &DSD_KINDS,
-        &DSD_WIDTHS,
+        &tables::DSD_LOWEST,
+        &tables::DSD_STARTS,
+        &tables::DSD_KEYS,
+        &tables::DSD_KINDS,
+        &tables::DSD_WIDTHS,
     );
     at + bad
 }
@@ -293,7 +274,7 @@ fn dsd_check(p: &[u8], at: usize, lowest: &[u8], highest: &[u8]) -> usize
     if p[at] == b' ' {
         return spare_check(p, at, Entry::SIZE - 1);
     }
-    if is_type(p[at + DSD_TYPE_AT]) {
+    if is_type(p[at + tables::DSD_TYPE_AT]) {
         if laid_in(p, at, lowest, highest) {
             return at + Entry::SIZE;
         }
@@ -306,8 +287,8 @@ pub fn dsds_check(p: &[u8], from: usize, n: usize) -> Verdict
     requires { ⌜ from + sizeOfDsd * n ≤ length (now p) ⌝ }
     ensures { λ r. ⌜ verdictIs r ≡ first (rule8From (now (p .entry)) from) 0 n ⌝ }
 {
-    let lowest = DSD_LOWEST;
-    let highest = DSD_HIGHEST;
+    let lowest = tables::DSD_LOWEST;
+    let highest = tables::DSD_HIGHEST;
     let mut i = 0;
     while i < n {
         let at = from + Entry::SIZE * i;

@@ -152,7 +152,8 @@ pub const MPH_WIDTHS: [u8; 41] = [
     40,
 ];
 
-// The lowest byte that may stand at each place of the main header, and below the highest. A literal byte is both.
+// The lowest byte that may stand at each place of the main header, and the highest. A literal byte is both, so that the lowest bytes are the template of
+// the literal ones too.
 pub const MPH_LOWEST: [u8; MainHeader::SIZE] = *b"\
     PRODUCT=\"                                                              \"\n\
     PROC_STAGE= \n\
