@@ -1,35 +1,14 @@
--- Searches and counts that go one number further, and what is left of a search.
+-- Searches and counts that go one number further.
 -- Assumes nothing.
-use Prim.Native.Nat.{ℕ, zero, suc, _+_, _-_, _≤_, _<_}
+use Prim.Native.Nat.{ℕ, zero, suc, _+_, _≤_, _<_}
 use mathlib.Core.Bool.{Bool, true, false, cond, not}
 use mathlib.Core.Path.{_≡_, refl, sym, _∙_}
 use native.Mathlib.Omega.{arith}
-use native.Mathlib.Nat.{add-zero, zero-add, add-assoc, sub-zero}
+use native.Mathlib.Nat.{add-zero, zero-add, add-assoc}
 use native.Mathlib.Numerals.{add-one}
 use lib.Dec.{ltb}
 use borrow.Author.Tests.{lt-ltb, le-ltb}
-use Rattle.layout.specs.Answer.{Answer, accepted, refused}
-use Rattle.layout.specs.Search.{first, find, count}
-use Rattle.layout.proofs.Laws.{first-step}
-
--- ---- what is left of a search from k on is the whole
-
-module _ (f : ℕ → Answer) (n : ℕ) where
-  pub left-all : first f 0 n ≡ first f 0 (n - 0)
-  left-all = rw (sub-zero n)
-
-  module _ (k : ℕ) (so : first f 0 n ≡ first f k (n - k)) where
-    pub left-refused : k < n → {m p e : ℕ} → f k ≡ refused m p e → first f 0 n ≡ refused m p e
-    left-refused h q = so ∙ first-step f k n h ∙ rw q
-
-    pub left-next : k < n → f k ≡ accepted → first f 0 n ≡ first f (k + 1) (n - (k + 1))
-    left-next h q = so ∙ first-step f k n h ∙ rw q
-
-    pub left-end : n ≤ k → first f 0 n ≡ accepted
-    unfolding first
-    left-end h = let q : n - k ≡ 0 = omega arith in so ∙ rw q
-
--- ---- one number further
+use Rattle.layout.specs.Search.{find, count}
 
 -- what is found stays found
 kept : (u : Bool) (i m x f y : ℕ) → i < m → x ≡ cond (ltb f m) f y → cond u i x ≡ cond (ltb (cond u i f) m) (cond u i f) y

@@ -6,12 +6,10 @@ use mathlib.Core.List.{List}
 use mathlib.Core.Path.{_≡_, refl}
 use native.Mathlib.Omega.{arith}
 use lib.Dec.{leb, eqb}
-use Rattle.layout.specs.Bytes.{part}
-use Rattle.layout.specs.Text.{layout}
 use Rattle.layout.specs.Answer.{need, _orElse_}
-use Rattle.layout.specs.Search.{laidOut}
 use Rattle.layout.specs.Entries.{largestSigned, dsdAt, dsdBytes, entryAt}
-use Rattle.layout.specs.Rules.{linesOf, rule8At, rule9At}
+use Rattle.layout.specs.Rules.{rule8At, rule9At}
+use Rattle.lines.specs.Table.{rule8From}
 use Rattle.dsd.specs.Held.{overPlace}
 use Rattle.directory.specs.Checks.{Dsds}
 
@@ -20,12 +18,9 @@ module _ (b : List ℕ) (dsds n i : ℕ) (placed : Dsds b dsds n) where
   unfolding dsdAt
   place = omega (arith, placed .begin)
 
-  -- r is what the check of the DSD's bytes answers
-  pub eight : (r : ℕ)
-      → ((e : ℕ) → laidOut 8 e (dsds + 280 * i) (layout (linesOf (part b (dsds + 280 * i) 280))) (part b (dsds + 280 * i) 280) ≡ need (eqb r (dsds + 280 * i + 280)) 8 r e)
-      → rule8At b i ≡ need (eqb r (dsds + 280 * i + 280)) 8 r i
-  unfolding rule8At dsdBytes
-  eight r h = rw (← place) (h i)
+  pub eight : rule8From b dsds i ≡ rule8At b i
+  unfolding rule8From rule8At dsdBytes
+  eight = rw place
 
 pub nine : (b : List ℕ) (i : ℕ) → rule9At b i ≡ need (eqb (overPlace (entryAt b i)) 0) 9 (dsdAt b i + overPlace (entryAt b i)) i
 unfolding rule9At overPlace

@@ -69,21 +69,12 @@ impl Sets {
     }
 }
 
-// Rule 8: the first byte of the DSDs, which begin at `dsds`, that is not as laid out.
+// Rule 8, of the DSDs, which begin at `dsds`.
 fn check_dsds(p: &[u8], dsds: usize, entries: usize) -> Verdict
     requires { ⌜ Dsds (now p) dsds entries ⌝ }
     ensures { λ r. ⌜ verdictIs r ≡ first (rule8At (now (p .entry))) 0 entries ⌝ }
 {
-    let mut i = 0;
-    while i < entries {
-        let start = dsds + Entry::SIZE * i;
-        let bad = lines::dsd_check(p, start);
-        if bad != start + Entry::SIZE {
-            return Verdict::refuse(8, bad as u64, i);
-        }
-        i += 1;
-    }
-    Verdict::Accepted
+    lines::dsds_check(p, dsds, entries)
 }
 
 // Rules 7 and 8: the SPH lines before the DSDs, and the DSDs.

@@ -1,6 +1,6 @@
--- What the first bad place of a whole header says: the answer of its layout, for the main header and for a DSD.
+-- What the first bad place of a whole header says: the answer of its layout, for the main header, for a DSD and for one DSD after another.
 -- Assumes nothing.
-use Prim.Native.Nat.{ℕ, suc, _+_, _-_, _≤_}
+use Prim.Native.Nat.{ℕ, suc, _+_, _*_, _-_, _≤_, _<_}
 use mathlib.Core.Bool.{Bool, true, false, cond}
 use mathlib.Core.List.{List, [], _∷_}
 use mathlib.Core.Path.{_≡_, refl, _∙_}
@@ -11,14 +11,15 @@ use lib.ListN.{length, take, drop, getD, length-drop}
 use lib.Seq.{drop-cons, getD-take, getD-drop, length-take-le}
 use borrow.Author.Tests.{eq-eqb, ne-eqb}
 use Rattle.layout.specs.Bytes.{part, byteAt}
-use Rattle.layout.specs.Text.{Class, Line, fits, layout}
+use Rattle.layout.specs.Text.{Class, fits, layout}
 use Rattle.layout.specs.Lines.{sizeOfDsd, dsd, spareDsd}
 use Rattle.layout.specs.Rules.{linesOf}
-use Rattle.layout.specs.Answer.{need, _orElse_}
-use Rattle.layout.specs.Search.{laidOut}
-use Rattle.layout.proofs.Laws.{laidOut-take}
+use Rattle.layout.specs.Answer.{Answer, accepted, refused, need, _orElse_}
+use Rattle.layout.specs.Search.{first, laidOut}
+use Rattle.layout.proofs.Laws.{first-step, laidOut-take}
+use Rattle.layout.proofs.Starts.{dsd-length, spare-length}
 use Rattle.text.proofs.Parts.{byte-part}
-use Rattle.lines.specs.Table.{badPlace, DsdChecked}
+use Rattle.lines.specs.Table.{badPlace, badInDsd, rule8From}
 use Rattle.lines.proofs.Spans.{bad-bounds}
 
 answer : (n e : ℕ) (ks : List Class) (b : List ℕ) (p : ℕ) → p + length ks ≤ length b
@@ -47,18 +48,14 @@ module _ (b : List ℕ) (at : ℕ) where
   unfolding part byteAt
   first-byte = getD-take sizeOfDsd (drop at b) 0 0 (omega arith) ∙ getD-drop at b 0 0 ∙ rw (add-zero at)
 
-  pub spare-lines : getD b at 0 ≡ 32 → linesOf (part b at sizeOfDsd) ≡ spareDsd
-  unfolding linesOf
-  spare-lines h = rw (first-byte, h)
+  module _ (r : ℕ) where
+    pub bad-spare : getD b at 0 ≡ 32 → r ≡ badPlace (layout spareDsd) b at → r ≡ badInDsd b at
+    unfolding badInDsd linesOf
+    bad-spare h found = rw (first-byte, h) found
 
-  pub dsd-lines : (getD b at 0 ≡ 32 → ⊥) → linesOf (part b at sizeOfDsd) ≡ dsd
-  unfolding linesOf
-  dsd-lines h = rw (first-byte, ne-eqb (getD b at 0) 32 h)
-
-  pub dsd-answer : (ls : List Line) (r : ℕ) → linesOf (part b at sizeOfDsd) ≡ ls → length (layout ls) ≡ sizeOfDsd → r ≡ badPlace (layout ls) b at → at + sizeOfDsd ≤ length b → DsdChecked b at r
-  unfolding part
-  dsd-answer ls r which long found h e =
-      rw which (laidOut-take 8 e (layout ls) (drop at b) at sizeOfDsd (omega arith) ∙ header-answer 8 e (layout ls) b at r (at + sizeOfDsd) found (omega arith) h)
+    pub bad-dsd : (getD b at 0 ≡ 32 → ⊥) → r ≡ badPlace (layout dsd) b at → r ≡ badInDsd b at
+    unfolding badInDsd linesOf
+    bad-dsd h found = rw (first-byte, ne-eqb (getD b at 0) 32 h) found
 
   -- the DSD by itself, as the code lends it: r is its first bad place
   pub dsd-long : at + sizeOfDsd ≤ length b → sizeOfDsd ≤ length (take (at + sizeOfDsd - at) (drop at b))
@@ -84,3 +81,35 @@ module _ (b : List ℕ) (at : ℕ) where
     dsd-place =
         let q : at + sizeOfDsd - at ≡ sizeOfDsd = omega arith in
         rw (found, q) (part-bad ks 0 sizeOfDsd (omega arith) ∙ rw (add-zero at))
+
+-- ---- rule 8
+
+lines-long : (d : List ℕ) → length (layout (linesOf d)) ≡ sizeOfDsd
+unfolding linesOf
+lines-long d = go (eqb (byteAt d 0) 32)
+  where
+    go : (t : Bool) → length (layout (cond t spareDsd dsd)) ≡ sizeOfDsd
+    go true = spare-length
+    go false = dsd-length
+
+-- r is the first bad place of DSD i
+pub dsd-answer : (b : List ℕ) (from i r : ℕ) → r ≡ badInDsd b (from + sizeOfDsd * i) → from + sizeOfDsd * i + sizeOfDsd ≤ length b
+    → rule8From b from i ≡ need (eqb r (from + sizeOfDsd * i + sizeOfDsd)) 8 r i
+unfolding rule8From badInDsd part
+dsd-answer b from i r found h =
+    let at = from + sizeOfDsd * i in
+    let ks = layout (linesOf (part b at sizeOfDsd)) in
+    let long : length ks ≡ sizeOfDsd = lines-long (part b at sizeOfDsd) in
+    laidOut-take 8 i ks (drop at b) at sizeOfDsd (omega arith) ∙ header-answer 8 i ks b at r (at + sizeOfDsd) found (omega arith) h
+
+-- what is left of the search from i on is the whole
+module _ (f : ℕ → Answer) (n i : ℕ) (so : first f 0 n ≡ first f i (n - i)) where
+  pub left-refused : i < n → {m p e : ℕ} → f i ≡ refused m p e → first f 0 n ≡ refused m p e
+  left-refused h q = so ∙ first-step f i n h ∙ rw q
+
+  pub left-next : i < n → f i ≡ accepted → first f 0 n ≡ first f (i + 1) (n - (i + 1))
+  left-next h q = so ∙ first-step f i n h ∙ rw q
+
+  pub left-end : n ≤ i → first f 0 n ≡ accepted
+  unfolding first
+  left-end h = let q : n - i ≡ 0 = omega arith in so ∙ rw q

@@ -1,4 +1,5 @@
 mod Spans
 mod Values
 mod Rows
+mod Ranges
 mod Headers

@@ -1,27 +1,20 @@
 -- The laws of the first bad place: one span after another, and a span as a search.
 -- Assumes nothing.
 use Prim.Native.Nat.{ℕ, zero, suc, _+_, _-_, _≤_, _<_}
-use mathlib.Core.Bool.{Bool, true, false, cond, not, _||_}
+use mathlib.Core.Bool.{Bool, true, false, cond, not}
 use mathlib.Core.List.{List, [], _∷_, _++_}
-use mathlib.Core.Path.{_≡_, refl, ap, sym}
+use mathlib.Core.Path.{_≡_, refl, ap}
 use native.Mathlib.Omega.{arith}
 use native.Mathlib.Numerals.{add-one}
-use lib.Dec.{eqb}
 use lib.ListN.{length, getD, replicate}
 use lib.Seq.{drop-cons}
 use borrow.Author.Tests.{eq-eqb, ne-eqb}
-use Rattle.layout.proofs.Laws.{not-not}
 use Rattle.layout.specs.Bytes.{part, byteAt}
 use Rattle.layout.specs.Text.{Class, exactly, fits, literal}
 use Rattle.layout.specs.Search.{find}
 use Rattle.text.specs.Blanks.{notBlank}
 use Rattle.text.specs.Runs.{fails}
-use Rattle.lines.specs.Table.{badPlace, differs}
-
--- the last test of several
-pub or-false : (t : Bool) → t ≡ (t || false)
-or-false true = refl
-or-false false = refl
+use Rattle.lines.specs.Table.{badPlace}
 
 -- the first bad place lies in the layout or right behind it
 pub bad-bounds : (ks : List Class) (b : List ℕ) (p : ℕ) → (p ≤ badPlace ks b p) × (badPlace ks b p ≤ p + length ks)
@@ -74,10 +67,6 @@ other : (u : Bool) (rest here : ℕ) → cond (not u) here rest ≡ cond u rest 
 other true rest here = refl
 other false rest here = refl
 
-part-none : (t : List ℕ) (at : ℕ) → part t at 0 ≡ []
-unfolding part
-part-none t at = refl
-
 pub run-bad : (k : Class) (b : List ℕ) (p n : ℕ) → find (fails (fits k) b) p n ≡ badPlace (replicate n k) b p
 unfolding find badPlace fails
 run-bad k b p zero = refl
@@ -91,25 +80,21 @@ pub length-literal : (xs : List ℕ) → length (literal xs) ≡ length xs
 length-literal [] = refl
 length-literal (x ∷ xs) = ap suc (length-literal xs)
 
-part-suc : (t : List ℕ) (at n : ℕ) → at < length t → part t at (suc n) ≡ getD t at 0 ∷ part t (suc at) n
-unfolding part
-part-suc t at n h = rw (drop-cons t at 0 h)
+-- a span of the template's bytes, of which those before i are good
+module _ (t b : List ℕ) (i to : ℕ) where
+  pub span-end : i ≤ to → to ≤ i → badPlace (literal (part t i (to - i))) b i ≡ to
+  unfolding badPlace part
+  span-end h l = let q : to - i ≡ 0 = omega arith in rw q (omega arith)
 
-pub literal-bad : (t b : List ℕ) (p n : ℕ) → p + n ≤ length t → find (differs t b) p n ≡ badPlace (literal (part t p n)) b p
-unfolding find badPlace differs fits byteAt
-literal-bad t b p zero h = rw (part-none t p)
-literal-bad t b p (suc n) h = rw (part-suc t p n (omega arith), literal-bad t b (suc p) n (omega arith)) (other (eqb (getD b p 0) (getD t p 0)) (badPlace (literal (part t (suc p) n)) b (suc p)) p)
+  module _ (h : i < to) (l : to ≤ length t) where
+    here : part t i (to - i) ≡ getD t i 0 ∷ part t (i + 1) (to - (i + 1))
+    unfolding part
+    here = let q : to - i ≡ suc (to - (i + 1)) = omega arith in rw (q, drop-cons t i 0 (omega arith), add-one i)
 
--- a byte against the template's
-module _ (t b : List ℕ) (i : ℕ) where
-  pub same-test : eqb (getD b i 0) (getD t i 0) ≡ not (differs t b i)
-  unfolding differs byteAt
-  same-test = sym (not-not (eqb (getD b i 0) (getD t i 0)))
+    pub span-bad : (getD b i 0 ≡ getD t i 0 → ⊥) → badPlace (literal (part t i (to - i))) b i ≡ i
+    unfolding fits
+    span-bad e = rw here (here-bad (exactly (getD t i 0)) _ b i (ne-eqb (getD b i 0) (getD t i 0) e))
 
-  pub is-same : getD b i 0 ≡ getD t i 0 → differs t b i ≡ false
-  unfolding differs byteAt
-  is-same e = rw (eq-eqb (getD b i 0) (getD t i 0) e)
-
-  pub not-same : (getD b i 0 ≡ getD t i 0 → ⊥) → differs t b i ≡ true
-  unfolding differs byteAt
-  not-same e = rw (ne-eqb (getD b i 0) (getD t i 0) e)
+    pub span-good : getD b i 0 ≡ getD t i 0 → badPlace (literal (part t i (to - i))) b i ≡ badPlace (literal (part t (i + 1) (to - (i + 1)))) b (i + 1)
+    unfolding fits
+    span-good e = rw here (here-good (exactly (getD t i 0)) _ b i (eq-eqb (getD b i 0) (getD t i 0) e))

@@ -1,14 +1,14 @@
 -- The first byte that is not as laid out, by place; the layout that the rows of a table and a template of literal bytes give; and what makes a table that
 -- of document 01's lines.
 -- Assumes nothing.
-use Prim.Native.Nat.{ℕ, zero, suc, _+_, _-_}
-use mathlib.Core.Bool.{Bool, true, cond, _&&_, not}
+use Prim.Native.Nat.{ℕ, zero, suc, _+_, _*_, _-_}
+use mathlib.Core.Bool.{Bool, true, cond, _&&_}
 use mathlib.Core.List.{List, [], _∷_, _++_, map}
 use mathlib.Core.Path.{_≡_}
 use lib.Dec.{leb, eqb}
 use lib.ListN.{length, getD, replicate}
 use Rattle.layout.specs.Bytes.{bytes, part, byteAt}
-use Rattle.layout.specs.Answer.{need}
+use Rattle.layout.specs.Answer.{Answer}
 use Rattle.layout.specs.Lines.{sizeOfDsd}
 use Rattle.layout.specs.Rules.{linesOf}
 use Rattle.layout.specs.Search.{laidOut}
@@ -19,10 +19,6 @@ use Rattle.lines.specs.declared.Row.{Row}
 unfoldable pub badPlace : List Class → List ℕ → ℕ → ℕ
 badPlace [] b p = p
 badPlace (k ∷ ks) b p = cond (fits k (byteAt b p)) (badPlace ks b (suc p)) p
-
--- the byte at a place is not the template's
-unfoldable pub differs : List ℕ → List ℕ → ℕ → Bool
-differs t b i = not (eqb (byteAt b i) (byteAt t i))
 
 -- ---- rows
 
@@ -96,9 +92,14 @@ pub record TableOf (ls : List Line) (t starts keys kinds widths : List ℕ) : Ty
   pub wide : widths ≡ map widthIn ls  -- as wide as the line's value
   pub laid : tableLaid t starts keys kinds widths ≡ layout ls  -- and with the lines' layout, so that kinds, keys and template are right too
 
--- ---- a DSD
+-- ---- DSDs
 
--- r is the first byte of the DSD at a place that is not as laid out, or the DSD's end: what rule 8 answers of it, whatever its entry
-abbrev pub DsdChecked : List ℕ → ℕ → ℕ → Type 0
-DsdChecked b at r =
-    (e : ℕ) → laidOut 8 e at (layout (linesOf (part b at sizeOfDsd))) (part b at sizeOfDsd) ≡ need (eqb r (at + sizeOfDsd)) 8 r e
+-- the first place of the DSD at a place that is not as laid out; the DSD's end where there is none
+unfoldable pub badInDsd : List ℕ → ℕ → ℕ
+badInDsd b at = badPlace (layout (linesOf (part b at sizeOfDsd))) b at
+
+-- rule 8 of DSD i of those that begin at `from`
+unfoldable pub rule8From : List ℕ → ℕ → ℕ → Answer
+rule8From b from i =
+    let at = from + sizeOfDsd * i in
+    laidOut 8 i at (layout (linesOf (part b at sizeOfDsd))) (part b at sizeOfDsd)

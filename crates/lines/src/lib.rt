@@ -1,236 +1,24 @@
 // The check of header lines against the layout of document 01, "Header text": the first byte that is not as laid out.
-// It goes row by row through a constant table of line start, kind and width, and span by span: the literal bytes from the last value on, and the value.
-// A spare's value is its blanks.
+// A header whose bytes all lie between the lowest and the highest that may stand at their places is as laid out. Any other goes row by row through a
+// constant table of line start, kind and width, and span by span: the literal bytes from the last value on, and the value. A spare's value is its blanks.
+mod tables;
+
 use dsd::Entry;
+use layout::Verdict;
 use values::MainHeader;
 ghost use mathlib.Core.Path.{_≡_};
-ghost use Prim.Native.Nat.{_+_, _-_, _≤_, _<_};
+ghost use Prim.Native.Nat.{_+_, _*_, _-_, _≤_, _<_};
 ghost use mathlib.Core.Bool.{not};
 ghost use lib.Dec.{T, eqb};
 ghost use lib.ListN.{length};
 ghost use Rattle.layout.specs.Bytes.{bytes, part};
 ghost use Rattle.layout.specs.Answer.{need};
-ghost use Rattle.layout.specs.Lines.{sizeOfMph, sizeOfDsd, mph};
-ghost use Rattle.layout.specs.Search.{some, laidOut};
+ghost use Rattle.layout.specs.Answers.{verdictIs};
+ghost use Rattle.layout.specs.Lines.{sizeOfMph, sizeOfDsd, mph, dsd};
+ghost use Rattle.layout.specs.Search.{first, some, laidOut};
 ghost use Rattle.layout.specs.Text.{layout, sign, among, fits, spare, s, sAB, literal, valueClasses, lineClasses};
-ghost use Rattle.text.specs.Runs.{Skipped};
-ghost use Rattle.lines.specs.Table.{badPlace, differs, valueLaid, widthFits, rowLaid, rowFits, rowOf, tableFits, badByTable, DsdChecked};
-
-// The kinds of a table, after the notation of document 01: a spare; text, of q or c; a flag, 0 or 1; a type, one of M A G R; a sign and digits, s;
-// the same with a point and three decimals, or (u, the one kind left) six.
-const SPARE: u8 = b' ';
-
-const TEXT: u8 = b'q';
-
-const FLAG: u8 = b'f';
-
-const TYPE: u8 = b't';
-
-const WHOLE: u8 = b's';
-
-const THOUSANDTHS: u8 = b'm';
-
-// The forty-one lines of the main header, by column: where each line begins, the bytes before its value, the value's kind and width. (That these are
-// document 01's is `TableOf` of specs/Table.)
-const MPH_STARTS: [u16; 41] = [
-    0,
-    73,
-    86,
-    120,
-    161,
-    204,
-    225,
-    265,
-    295,
-    336,
-    380,
-    423,
-    464,
-    472,
-    483,
-    500,
-    517,
-    565,
-    587,
-    614,
-    641,
-    668,
-    697,
-    726,
-    755,
-    774,
-    815,
-    858,
-    886,
-    913,
-    946,
-    985,
-    1000,
-    1011,
-    1052,
-    1066,
-    1104,
-    1132,
-    1152,
-    1180,
-    1206,
-];
-
-const MPH_KEYS: [u8; 41] = [
-    9,
-    11,
-    9,
-    0,
-    21,
-    13,
-    11,
-    14,
-    0,
-    15,
-    14,
-    0,
-    6,
-    6,
-    10,
-    10,
-    19,
-    10,
-    11,
-    11,
-    11,
-    11,
-    11,
-    11,
-    15,
-    0,
-    14,
-    16,
-    11,
-    0,
-    10,
-    10,
-    9,
-    0,
-    12,
-    9,
-    9,
-    8,
-    9,
-    14,
-    0,
-];
-
-const MPH_KINDS: [u8; 41] = *b"qqq qqqq qq qsssqummmuuuq qss qsf fsssss ";
-
-const MPH_WIDTHS: [u8; 41] = [
-    62,
-    1,
-    23,
-    40,
-    20,
-    6,
-    27,
-    14,
-    40,
-    27,
-    27,
-    40,
-    1,
-    4,
-    6,
-    6,
-    27,
-    8,
-    12,
-    12,
-    12,
-    12,
-    12,
-    12,
-    2,
-    40,
-    27,
-    11,
-    11,
-    32,
-    27,
-    4,
-    1,
-    40,
-    1,
-    21,
-    11,
-    11,
-    11,
-    11,
-    40,
-];
-
-// The main header's literal bytes; fillers stand for each value and for a spare's blanks. (They differ from byte to byte: a run of equal bytes is slower to
-// set up.)
-const MPH_TEMPLATE: [u8; MainHeader::SIZE] = *b"\
-    PRODUCT=\"01234567890123456789012345678901234567890123456789012345678901\"\n\
-    PROC_STAGE= \n\
-    REF_DOC=\"01234567890123456789012\"\n\
-    0123456789012345678901234567890123456789\n\
-    ACQUISITION_STATION=\"01234567890123456789\"\n\
-    PROC_CENTER=\"012345\"\n\
-    PROC_TIME=\"012345678901234567890123456\"\n\
-    SOFTWARE_VER=\"01234567890123\"\n\
-    0123456789012345678901234567890123456789\n\
-    SENSING_START=\"012345678901234567890123456\"\n\
-    SENSING_STOP=\"012345678901234567890123456\"\n\
-    0123456789012345678901234567890123456789\n\
-    PHASE= \n\
-    CYCLE=+123\n\
-    REL_ORBIT=+12345\n\
-    ABS_ORBIT=+12345\n\
-    STATE_VECTOR_TIME=\"012345678901234567890123456\"\n\
-    DELTA_UT1=+.123456<s>\n\
-    X_POSITION=+1234567.890<m>\n\
-    Y_POSITION=+1234567.890<m>\n\
-    Z_POSITION=+1234567.890<m>\n\
-    X_VELOCITY=+1234.567890<m/s>\n\
-    Y_VELOCITY=+1234.567890<m/s>\n\
-    Z_VELOCITY=+1234.567890<m/s>\n\
-    VECTOR_SOURCE=\"01\"\n\
-    0123456789012345678901234567890123456789\n\
-    UTC_SBT_TIME=\"012345678901234567890123456\"\n\
-    SAT_BINARY_TIME=+1234567890\n\
-    CLOCK_STEP=+1234567890<ps>\n\
-    01234567890123456789012345678901\n\
-    LEAP_UTC=\"012345678901234567890123456\"\n\
-    LEAP_SIGN=+123\n\
-    LEAP_ERR=0\n\
-    0123456789012345678901234567890123456789\n\
-    PRODUCT_ERR=0\n\
-    TOT_SIZE=+12345678901234567890<bytes>\n\
-    SPH_SIZE=+1234567890<bytes>\n\
-    NUM_DSD=+1234567890\n\
-    DSD_SIZE=+1234567890<bytes>\n\
-    NUM_DATA_SETS=+1234567890\n\
-    0123456789012345678901234567890123456789\n\
-";
-
-// One DSD, by the same columns.
-const DSD_STARTS: [u16; 8] = [0, 39, 49, 123, 162, 199, 219, 247];
-
-const DSD_KEYS: [u8; 8] = [9, 8, 10, 10, 8, 8, 9, 0];
-
-const DSD_KINDS: [u8; 8] = *b"qtqssss ";
-
-const DSD_WIDTHS: [u8; 8] = [28, 1, 62, 21, 21, 11, 11, 32];
-
-const DSD_TEMPLATE: [u8; Entry::SIZE] = *b"\
-    DS_NAME=\"0123456789012345678901234567\"\n\
-    DS_TYPE=M\n\
-    FILENAME=\"01234567890123456789012345678901234567890123456789012345678901\"\n\
-    DS_OFFSET=+12345678901234567890<bytes>\n\
-    DS_SIZE=+12345678901234567890<bytes>\n\
-    NUM_DSR=+1234567890\n\
-    DSR_SIZE=+1234567890<bytes>\n\
-    01234567890123456789012345678901\n\
-";
+ghost use Rattle.lines.specs.Ranges.{misplaced, DsdRanges};
+ghost use Rattle.lines.specs.Table.{badPlace, valueLaid, widthFits, rowLaid, rowFits, rowOf, tableFits, badByTable, badInDsd, rule8From};
 
 // One row of a table: its value's first byte, kind and width.
 struct Row {
@@ -272,43 +60,8 @@ fn is_type(x: u8) -> bool
     x == b'R'
 }
 
-// The bytes of `p` against the template's: some of them as a whole, without an exit, so that they are compared side by side.
-fn literal_in(p: &[u8], template: &[u8], at: usize, n: usize) -> bool
-    requires { ⌜ (at + n ≤ length (now template)) × (at + n ≤ length (now p)) ⌝ }
-    ensures { λ r. ⌜ r ≡ not (some (differs (now (template .entry)) (now (p .entry))) at n) ⌝ }
-{
-    let mut all = true;
-    let mut i = 0;
-    while i < n {
-        all = all & (p[at + i] == template[at + i]);
-        i += 1;
-    }
-    all
-}
-
-// A place up to which they agree, by blocks, the last of which ends with the span.
-fn literal_blocks(p: &[u8], template: &[u8], from: usize, to: usize) -> usize
-    requires { ⌜ (from ≤ to) × (to ≤ length (now template)) × (to ≤ length (now p)) ⌝ }
-    ensures { λ r. ⌜ Skipped (differs (now (template .entry)) (now (p .entry))) from to r ⌝ }
-{
-    if to - from < 8 {
-        return from;
-    }
-    let mut i = from;
-    while 8 < to - i {
-        if !literal_in(p, template, i, 8) {
-            return i;
-        }
-        i += 8;
-    }
-    if literal_in(p, template, to - 8, 8) {
-        return to;
-    }
-    i
-}
-
-// The first byte of a span that is not as laid out, or its end: byte by byte.
-fn literal_bytes(p: &[u8], template: &[u8], from: usize, to: usize) -> usize
+// The first byte of a span that is not as laid out, or its end.
+fn literal_span(p: &[u8], template: &[u8], from: usize, to: usize) -> usize
     requires { ⌜ (from ≤ to) × (to ≤ length (now template)) × (to ≤ length (now p)) ⌝ }
     ensures { λ r. ⌜ r ≡ badPlace (literal (part (now (template .entry)) from (to - from))) (now (p .entry)) from ⌝ }
 {
@@ -320,15 +73,6 @@ fn literal_bytes(p: &[u8], template: &[u8], from: usize, to: usize) -> usize
         i += 1;
     }
     to
-}
-
-// The same, by blocks first.
-fn literal_span(p: &[u8], template: &[u8], from: usize, to: usize) -> usize
-    requires { ⌜ (from ≤ to) × (to ≤ length (now template)) × (to ≤ length (now p)) ⌝ }
-    ensures { λ r. ⌜ r ≡ badPlace (literal (part (now (template .entry)) from (to - from))) (now (p .entry)) from ⌝ }
-{
-    let start = literal_blocks(p, template, from, to);
-    literal_bytes(p, template, start, to)
 }
 
 // A spare line: so many blanks and byte 10.
@@ -377,28 +121,28 @@ fn value_check(p: &[u8], from: usize, kind: u8, to: usize) -> usize
     requires { ⌜ (from ≤ to) × (to ≤ length (now p)) × T (widthFits kind (to - from)) ⌝ }
     ensures { λ r. ⌜ r ≡ badPlace (valueLaid kind (to - from)) (now (p .entry)) from ⌝ }
 {
-    if kind == TEXT {
+    if kind == tables::TEXT {
         return text::first_not_plain(p, from, to);
     }
-    if kind == SPARE {
+    if kind == tables::SPARE {
         return text::first_not_blank(p, from, to);
     }
-    if kind == FLAG {
+    if kind == tables::FLAG {
         if is_flag(p[from]) {
             return to;
         }
         return from;
     }
-    if kind == TYPE {
+    if kind == tables::TYPE {
         if is_type(p[from]) {
             return to;
         }
         return from;
     }
-    if kind == WHOLE {
+    if kind == tables::WHOLE {
         return whole_check(p, from, to);
     }
-    if kind == THOUSANDTHS {
+    if kind == tables::THOUSANDTHS {
         return decimal_check(p, from, to - 4, to);
     }
     decimal_check(p, from, to - 7, to)
@@ -440,7 +184,7 @@ fn row_at(starts: &[u16], keys: &[u8], kinds: &[u8], widths: &[u8], i: usize) ->
     }
 }
 
-// The lines of a table, in the header `p`: row by row, and the literal bytes behind the last value, which are few: in both tables one byte 10.
+// The lines of a table, in the header `p`: row by row, and the literal bytes behind the last value.
 fn lines_check(
     p: &[u8],
     template: &[u8],
@@ -464,7 +208,27 @@ fn lines_check(
         from = end;
         i += 1;
     }
-    literal_bytes(p, template, from, template.len())
+    literal_span(p, template, from, template.len())
+}
+
+// The bytes of `p` from `at` on lie between the lowest and the highest that may stand at their places. A quote stands only where one is asked for, and
+// between + and - lies a comma. They are tested as a whole, without an exit, so that they are tested side by side.
+fn laid_in(p: &[u8], at: usize, lowest: &[u8], highest: &[u8]) -> bool
+    requires { ⌜ (at + length (now lowest) ≤ length (now p)) × (length (now lowest) ≤ length (now highest)) ⌝ }
+    ensures { λ r. ⌜ r ≡ not (some (misplaced (now (lowest .entry)) (now (highest .entry)) (now (p .entry)) at) 0 (length (now (lowest .entry)))) ⌝ }
+{
+    let mut all = true;
+    let mut i = 0;
+    while i < lowest.len() {
+        let x = p[at + i];
+        let low = lowest[i];
+        let high = highest[i];
+        all = all
+            & (((low <= x) & (x <= high))
+                & (((x != b'"') | (low == b'"')) & ((x != b',') | (high != b'-'))));
+        i += 1;
+    }
+    all
 }
 
 // The first byte of the main header that is not as laid out, or its end.
@@ -472,32 +236,67 @@ pub fn main_header_check(p: &[u8]) -> usize
     requires { ⌜ sizeOfMph ≤ length (now p) ⌝ }
     ensures { λ r. ⌜ laidOut 3 128 0 (layout mph) (now (p .entry)) ≡ need (eqb r sizeOfMph) 3 r 128 ⌝ }
 {
+    if laid_in(p, 0, &tables::MPH_LOWEST, &tables::MPH_HIGHEST) {
+        return MainHeader::SIZE;
+    }
     lines_check(
         p,
-        &MPH_TEMPLATE,
-        &MPH_STARTS,
-        &MPH_KEYS,
-        &MPH_KINDS,
-        &MPH_WIDTHS,
+        &tables::MPH_LOWEST,
+        &tables::MPH_STARTS,
+        &tables::MPH_KEYS,
+        &tables::MPH_KINDS,
+        &tables::MPH_WIDTHS,
     )
 }
 
-// The same of the DSD that begins at `at`. A DSD whose first byte is a blank is a spare.
-pub fn dsd_check(p: &[u8], at: usize) -> usize
+// The same of the DSD that begins at `at`, by the rows of its table.
+fn dsd_lines(p: &[u8], at: usize) -> usize
     requires { ⌜ at + sizeOfDsd ≤ length (now p) ⌝ }
-    ensures { λ r. ⌜ DsdChecked (now (p .entry)) at r ⌝ }
+    ensures { λ r. ⌜ r ≡ badPlace (layout dsd) (now (p .entry)) at ⌝ }
+{
+    let end = at + Entry::SIZE;
+    let bad = lines_check(
+        &p[at..end],
+        &tables::DSD_LOWEST,
+        &tables::DSD_STARTS,
+        &tables::DSD_KEYS,
+        &tables::DSD_KINDS,
+        &tables::DSD_WIDTHS,
+    );
+    at + bad
+}
+
+// The same of any DSD, with the ranges of its bytes lent. One whose first byte is a blank is a spare. The type is tested by itself: M, A, G, R are no range.
+fn dsd_check(p: &[u8], at: usize, lowest: &[u8], highest: &[u8]) -> usize
+    requires { ⌜ (at + sizeOfDsd ≤ length (now p)) × DsdRanges (now lowest) (now highest) ⌝ }
+    ensures { λ r. ⌜ r ≡ badInDsd (now (p .entry)) at ⌝ }
 {
     if p[at] == b' ' {
         return spare_check(p, at, Entry::SIZE - 1);
     }
-    let end = at + Entry::SIZE;
-    let bad = lines_check(
-        &p[at..end],
-        &DSD_TEMPLATE,
-        &DSD_STARTS,
-        &DSD_KEYS,
-        &DSD_KINDS,
-        &DSD_WIDTHS,
-    );
-    at + bad
+    if is_type(p[at + tables::DSD_TYPE_AT]) {
+        if laid_in(p, at, lowest, highest) {
+            return at + Entry::SIZE;
+        }
+    }
+    dsd_lines(p, at)
+}
+
+// Rule 8 of the `n` DSDs that begin at `from`. The ranges are made once for all.
+pub fn dsds_check(p: &[u8], from: usize, n: usize) -> Verdict
+    requires { ⌜ from + sizeOfDsd * n ≤ length (now p) ⌝ }
+    ensures { λ r. ⌜ verdictIs r ≡ first (rule8From (now (p .entry)) from) 0 n ⌝ }
+{
+    let lowest = tables::DSD_LOWEST;
+    let highest = tables::DSD_HIGHEST;
+    let mut i = 0;
+    while i < n {
+        let at = from + Entry::SIZE * i;
+        let bad = dsd_check(p, at, &lowest, &highest);
+        if bad != at + Entry::SIZE {
+            return Verdict::refuse(8, bad as u64, i);
+        }
+        i += 1;
+    }
+    Verdict::Accepted
 }

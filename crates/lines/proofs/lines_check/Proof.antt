@@ -44,12 +44,12 @@ loop-less c = omega arith
 loop-again : tie.Need-loop-again Inv-loop μ-loop
 loop-again c = (omega arith, turn-good _ _ _ _ _ _ (c .before .before .before .before .before .loop .inv .1) (omega arith) _ (c .before .before .before .row-at .ensures) _ (c .before .row-check .ensures) (c .if1 .left))
 
-literal-bytes-requires : tie.Need-literal-bytes-requires Inv-loop μ-loop
-literal-bytes-requires c κs = (turn-inside _ _ _ _ _ _ (c .before .loop .inv .1) (omega arith), omega arith, c .before .before .before .before .before .before .before .before .pre .1)
+literal-span-requires : tie.Need-literal-span-requires Inv-loop μ-loop
+literal-span-requires c κs = (turn-inside _ _ _ _ _ _ (c .before .loop .inv .1) (omega arith), omega arith, c .before .before .before .before .before .before .before .before .pre .1)
 
 returns-2 : tie.Need-returns-2 Inv-loop μ-loop
 unfolding badByTable tableLaid
-returns-2 c = turn-end _ _ _ _ _ _ (c .before .before .loop .inv .1) (omega arith) _ (c .literal-bytes .ensures)
+returns-2 c = turn-end _ _ _ _ _ _ (c .before .before .loop .inv .1) (omega arith) _ (c .literal-span .ensures)
 
 pub lines-check-spec : {M : Type 1} → statement M
 lines-check-spec =
@@ -65,5 +65,5 @@ lines-check-spec =
     add-i
     loop-less
     loop-again
-    literal-bytes-requires
+    literal-span-requires
     returns-2)
