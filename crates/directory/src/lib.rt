@@ -9,15 +9,12 @@ ghost use mathlib.Core.Path.{_≡_};
 ghost use Prim.Native.Nat.{ℕ, _+_, _*_, _≤_, _<_};
 ghost use lib.Dec.{leb, ltb};
 ghost use lib.ListN.{length};
-ghost use Rattle.layout.specs.Answer.{accepted};
 ghost use Rattle.layout.specs.Answers.{verdictIs};
 ghost use Rattle.layout.specs.Entries.{largestSigned, entriesFrom, directory};
 ghost use Rattle.layout.specs.Lines.{sizeOfDsd};
-ghost use Rattle.layout.specs.Rules.{rule8At, rules7to14};
-ghost use Rattle.layout.specs.Search.{first};
 ghost use Rattle.directory.specs.Numbers.{together, noSets, heldSets, directoryWith};
 ghost use Rattle.directory.specs.Texts.{textsFrom, Room};
-ghost use Rattle.directory.specs.Checks.{Headers, Dsds, SparesByFirst, Counted, ReadFrom, textRules, numberRules, Placed};
+ghost use Rattle.directory.specs.Checks.{Dsds, SparesByFirst, Counted, ReadFrom, textRules, numberRules, Placed};
 
 // The numbers and roles of up to 128 entries held together, unused places zero.
 pub struct Sets {
@@ -69,14 +66,6 @@ impl Sets {
     }
 }
 
-// Rule 8, of the DSDs, which begin at `dsds`.
-fn check_dsds(p: &[u8], dsds: usize, entries: usize) -> Verdict
-    requires { ⌜ Dsds (now p) dsds entries ⌝ }
-    ensures { λ r. ⌜ verdictIs r ≡ first (rule8At (now (p .entry))) 0 entries ⌝ }
-{
-    lines::dsds_check(p, dsds, entries)
-}
-
 // Rules 7 and 8: the SPH lines before the DSDs, and the DSDs.
 pub fn check_text(p: &[u8], dsds: usize, entries: usize) -> Verdict
     requires { ⌜ Dsds (now p) dsds entries ⌝ }
@@ -86,7 +75,7 @@ pub fn check_text(p: &[u8], dsds: usize, entries: usize) -> Verdict
     if bad != dsds {
         return Verdict::refuse(7, bad as u64, 128);
     }
-    check_dsds(p, dsds, entries)
+    lines::dsds_check(p, dsds, entries)
 }
 
 // What one reading of the entries counts: how many in a row from the first on have an offset and a size within 2^63 - 1 (rule 9), how many in a row
