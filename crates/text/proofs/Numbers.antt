@@ -1,7 +1,7 @@
 -- The turns of the loop over a number's digits, digits in pairs and in halves, and the value of a number.
 -- Assumes nothing.
 use Prim.Native.Nat.{ℕ, zero, suc, _+_, _*_, _-_, _^_, _≤_, _<_, min}
-use mathlib.Core.Bool.{Bool, true, false, cond, not}
+use mathlib.Core.Bool.{Bool, true, false, cond, _&&_, not}
 use mathlib.Core.List.{List, [], _∷_}
 use mathlib.Core.Path.{_≡_, refl, sym, ap, _∙_, subst}
 use native.Mathlib.Omega.{arith}
@@ -14,9 +14,11 @@ use lib.Signed.{mag}
 use mir.Syntax.{w64}
 use mir.Val.{SFits, toZ, ofZ}
 use mir.Facts.{toZ-ofZ}
-use borrow.Author.Tests.{eq-eqb, ne-eqb, lt-ltb}
+use borrow.Author.Tests.{eqb-true, eq-eqb, ne-eqb, lt-ltb}
+use Rattle.layout.proofs.Laws.{and-T}
+use Rattle.layout.proofs.Tests.{is-true}
 use Rattle.layout.specs.Bytes.{part, byteAt}
-use Rattle.layout.specs.Text.{digit, fits, digits, numberOf}
+use Rattle.layout.specs.Text.{exactly, digit, fits, digits, numberOf}
 use Rattle.layout.specs.Search.{some}
 use Rattle.text.specs.Runs.{fails}
 use Rattle.text.specs.Numbers.{AllDigits, capped, withByte, numberIn, wholeIn}
@@ -149,19 +151,41 @@ module _ (b : List ℕ) where
         in-two 2 (at + 6) (at + 8) 2 (omega arith) (omega arith) (from 8 (omega arith)),
       )
 
+  abbrev AllZeros : ℕ → ℕ → Type 0
+  AllZeros at n = (k : ℕ) → at ≤ k → k < at + n → getD b k 0 ≡ 48
+
+  zero-digit : (k : ℕ) → getD b k 0 ≡ 48 → T (fits digit (byteAt b k))
+  unfolding byteAt fits
+  zero-digit k e = rw e tt
+
+  digits-zero : (n at : ℕ) → at + n ≤ length b → AllZeros at n → digits 0 (part b at n) ≡ 0
+  digits-zero zero at l h = digits-none at 0
+  digits-zero (suc n) at l h =
+      let here = h at (omega arith) (omega arith) in
+      digit-first n at 0 (omega arith) (zero-digit at here)
+      ∙ rw here (digits-zero n (suc at) (omega arith) (λ k v w. h k (omega arith) (omega arith)))
+
   -- the bytes that a test as a whole passed
   pub all-digits : (at n : ℕ) (all : Bool) → all ≡ not (some (fails (fits digit) b) at n) → all ≡ true → AllDigits b at n
   all-digits at n all e h k l u = not-failing (fits digit) b k (tested (fails (fits digit) b) n at all e h k l u)
+
+  pub all-zeros : (at n : ℕ) (all : Bool) → all ≡ not (some (fails (fits (exactly 48)) b) at n) → all ≡ true → AllZeros at n
+  unfolding byteAt fits
+  all-zeros at n all e h k l u = eqb-true (getD b k 0) 48 (is-true _ (not-failing (fits (exactly 48)) b k (tested (fails (fits (exactly 48)) b) n at all e h k l u)))
 
   module _ (from to : ℕ) where
     pub ten-is : (r : ℕ) → to - from ≡ 10 → (r ≡ digits 0 (part b from 10)) × (r < 10 ^ 10) → r ≡ capped (digits 0 (part b from (to - from)))
     unfolding capped
     ten-is r w e = rw (w, ← (e .0)) (omega (arith, e .1))
 
-    pub twenty-is : (high low r : ℕ) → from + 20 ≤ length b → to - from ≡ 20 → AllDigits b from 20
-        → high ≡ digits 0 (part b from 10) → low ≡ digits 0 (part b (from + 10) 10) → r ≡ capped (high * 10 ^ 10 + low)
-        → r ≡ capped (digits 0 (part b from (to - from)))
-    twenty-is high low r l w h e f is = is ∙ rw (w, e, f) (ap capped (sym (in-two 10 from (from + 10) 10 refl (omega arith) (λ k v u. h k (omega arith) (omega arith)))))
+    pub twenty-is : (r : ℕ) → to - from ≡ 20 → from + 20 ≤ length b → AllZeros from 10 → AllDigits b (from + 10) 10
+        → (r ≡ digits 0 (part b (from + 10) 10)) × (r < 10 ^ 10) → r ≡ capped (digits 0 (part b from (to - from)))
+    unfolding capped
+    twenty-is r w l zeros h e = rw (w, in-two 10 from (from + 10) 10 refl (omega arith) h, digits-zero 10 from (omega arith) zeros, ← (e .0)) (omega (arith, e .1))
+
+-- two tests as one
+pub both-true : (a b : Bool) → (a && b) ≡ true → (a ≡ true) × (b ≡ true)
+both-true a b e = let g = and-T a b .0 (rw e tt) in (is-true a (g .0), is-true b (g .1))
 
 -- ---- the value
 

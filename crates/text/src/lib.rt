@@ -6,7 +6,7 @@ ghost use lib.Dec.{T};
 ghost use lib.ListN.{length};
 ghost use Rattle.layout.specs.Bytes.{part};
 ghost use Rattle.layout.specs.Search.{some, find};
-ghost use Rattle.layout.specs.Text.{plain, digit, fits, digits};
+ghost use Rattle.layout.specs.Text.{exactly, plain, digit, fits, digits};
 ghost use Rattle.text.specs.Blanks.{notBlank};
 ghost use Rattle.text.specs.Runs.{fails, Skipped};
 ghost use Rattle.text.specs.Numbers.{AllDigits, capped, withByte, numberIn, wholeIn};
@@ -229,29 +229,27 @@ fn ten_digits(p: &[u8], at: usize) -> u64
     high * 10000 + low
 }
 
-// Ten digits behind others, held at 2^63.
-fn joined(high: u64, low: u64) -> u64
-    requires { ⌜ low < 10 ^ 10 ⌝ }
-    ensures { λ r. ⌜ r ≡ capped (high * 10 ^ 10 + low) ⌝ }
+fn zeros_in(p: &[u8], at: usize, n: usize) -> bool
+    requires { ⌜ at + n ≤ length (now p) ⌝ }
+    ensures { λ r. ⌜ r ≡ not (some (fails (fits (exactly 48)) (now (p .entry))) at n) ⌝ }
 {
-    if 922337203 < high {
-        return 9223372036854775808;
+    let mut all = true;
+    let mut i = 0;
+    while i < n {
+        all = all & (p[at + i] == 48);
+        i += 1;
     }
-    let all = high * 10000000000 + low;
-    if all < 9223372036854775808 {
-        return all;
-    }
-    9223372036854775808
+    all
 }
 
-// The same magnitude: of twenty digits, as sizes and offsets have them, in two halves, and of ten at once.
+// The same magnitude: at once of ten digits, and of twenty that begin with ten zeros, as every size and offset in an accepted product does.
 fn magnitude_at(p: &[u8], from: usize, to: usize) -> u64
     requires { ⌜ (from ≤ to) × (to ≤ length (now p)) ⌝ }
     ensures { λ r. ⌜ r ≡ capped (digits 0 (part (now (p .entry)) from (to - from))) ⌝ }
 {
     if to - from == 20 {
-        if digits_in(p, from, 20) {
-            return joined(ten_digits(p, from), ten_digits(p, from + 10));
+        if zeros_in(p, from, 10) & digits_in(p, from + 10, 10) {
+            return ten_digits(p, from + 10);
         }
     }
     if to - from == 10 {
