@@ -5,7 +5,7 @@ use mathlib.Core.Path.{_≡_, refl, sym, ap, _∙_, subst}
 use mathlib.Core.List.{List, [], _∷_, _++_, append-nil}
 use native.Mathlib.Omega.{arith}
 use native.Mathlib.Nat.{add-zero, zero-add, add-suc, suc-add}
-use lib.ListN.{length, take, drop, getD, set, length-append, length-drop}
+use lib.ListN.{length, take, drop, getD, set, replicate, length-append, length-drop, length-replicate, replicate-append-replicate}
 use lib.Seq.{sets, sets-eq, take-suc, take-at, drop-at, take-append-le, drop-append-le, drop-append-add, take-set-le, drop-set-lt, drop-set-add, drop-length, length-take-le}
 use Rattle.layout.specs.Bytes.{part}
 use Rattle.writing.specs.Put.{Put, Written}
@@ -33,6 +33,10 @@ module _ {A : Type 0} where
   -- a turn of the loop that copies a text
   pub one-more : (old text : List A) (at i : ℕ) (z : A) → i < length text → set (sets old at (take i text)) (at + i) (getD text i z) ≡ sets old at (take (suc i) text)
   one-more old text at i z h = rw (take-suc text i z h, sets-append old at (take i text) (getD text i z ∷ []), length-take-le i text (omega arith))
+
+  -- and of the one that stores one element over and over
+  pub once-more : (old : List A) (at i : ℕ) (z : A) → set (sets old at (replicate i z)) (at + i) z ≡ sets old at (replicate (i + 1) z)
+  once-more old at i z = rw (← replicate-append-replicate i 1 z, sets-append old at (replicate i z) (z ∷ []), length-replicate i z)
 
   -- from the first place on
   pub at-first : {w : ℕ} {text old new : List A} {r : ℕ} → Put w text old new 0 r → length text ≤ length old → new ≡ text ++ drop (length text) old
