@@ -6,7 +6,7 @@ use mathlib.Core.List.{List, [], _∷_, _++_, append-nil}
 use native.Mathlib.Omega.{arith}
 use native.Mathlib.Nat.{add-zero, zero-add, add-suc, suc-add}
 use lib.ListN.{length, take, drop, getD, set, replicate, length-append, length-drop, length-replicate, replicate-append-replicate}
-use lib.Seq.{sets, sets-eq, take-suc, take-at, drop-at, take-append-le, drop-append-le, drop-append-add, take-set-le, drop-set-lt, drop-set-add, drop-length, length-take-le}
+use lib.Seq.{sets, sets-eq, length-sets, take-suc, take-at, drop-at, take-append-le, drop-append-le, drop-append-add, take-set-le, drop-set-lt, drop-set-add, drop-length, length-take-le}
 use Rattle.layout.specs.Bytes.{part}
 use Rattle.writing.specs.Put.{Put, Written}
 
@@ -25,6 +25,9 @@ module _ {A : Type 0} where
   -- under another bound
   pub at-most : (v : ℕ) {w : ℕ} {text old new : List A} {at r : ℕ} → Put w text old new at r → length text ≤ v → Put v text old new at r
   at-most v p h = record { next = p .next; written = p .written; narrow = h }
+
+  pub same-room : {w : ℕ} {text old new : List A} {at r : ℕ} → Put w text old new at r → length new ≡ length old
+  same-room {w} {text} {old} {new} {at} p = ap length (p .written) ∙ length-sets old at text
 
   -- the text written otherwise
   pub spelled : {w : ℕ} {a b old new : List A} {at r : ℕ} → a ≡ b → Put w a old new at r → Put w b old new at r
