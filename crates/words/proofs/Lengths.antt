@@ -6,7 +6,7 @@ use Rattle.layout.specs.Answer.{Answer, accepted, refused, Reply, refusal, is}
 use Rattle.layout.specs.Records.{Span}
 use Rattle.layout.specs.Fields.{Value, integer, single, double, time, Position}
 use Rattle.words.specs.Words.{verdictWords, placeWords, valueWords, fieldWords, pointWords, pointDoubles}
-use Rattle.words.specs.Headers.{identityWords, sensingWords, orbitWords, clockWords, sizesWords, headerWords, identityTexts, headerTexts, numberWords, directoryWords, directoryTexts}
+use Rattle.words.specs.Headers.{identityWords, sensingWords, orbitWords, clockWords, sizesWords, headerWords, identityTexts, headerTexts, directoryWords, directoryTexts}
 use Rattle.values.specs.declared.MainHeader.{MainHeader}
 use Rattle.layout.specs.declared.Directory.{Directory}
 
@@ -39,7 +39,7 @@ doubles-three (refusal n p e) = refl
 doubles-three (is x) = refl
 
 pub directory-words : (v : Answer) (d : Directory) → length (d .types) ≡ 128 → length (d .offsets) ≡ 128 → length (d .sizes) ≡ 128 → length (d .counts) ≡ 128 → length (d .«record_sizes») ≡ 128 → length (directoryWords v d) ≡ 644
-unfolding directoryWords numberWords
+unfolding directoryWords
 directory-words v d types offsets sizes counts records = simp (length-append, length-map, verdict-three, types, offsets, sizes, counts, records)
 
 pub directory-texts : (d : Directory) → length (d .names) ≡ 3584 → length (d .filenames) ≡ 7936 → length (directoryTexts d) ≡ 11520

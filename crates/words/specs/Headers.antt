@@ -43,7 +43,7 @@ headerTexts h = identityTexts (h .identity) ++ ((h .sensing .«sensing_start» +
 
 -- ---- the directory: how many entries, then each number of all 128 places; its names, then its FILENAMEs
 
-unfoldable pub numberWords : Answer → ℕ → (types offsets sizes counts : List ℕ) → List ℤ → List ℕ
+abbrev pub numberWords : Answer → ℕ → (types offsets sizes counts : List ℕ) → List ℤ → List ℕ
 numberWords v n types offsets sizes counts record-sizes = verdictWords v ++ ((n ∷ []) ++ (types ++ ((offsets ++ (sizes ++ counts)) ++ map word record-sizes)))
 
 unfoldable pub directoryWords : Answer → Directory → List ℕ

@@ -2,7 +2,6 @@
 -- Assumes nothing.
 use native.Mathlib.Omega.{arith}
 use Rattle.writing.proofs.Puts.{then, at-most}
-use Rattle.words.specs.Headers.{numberWords}
 use borrow.Author.Needs.{needs}
 use Rattle.words.proofs.headers.put_directory_numbers.Statement.{statement}
 use Rattle.words.proofs.headers.put_directory_numbers.Tie as tie
@@ -29,7 +28,6 @@ same-length : tie.Need-same-length
 same-length c = search needs
 
 returns : tie.Need-returns
-unfolding numberWords
 returns c =
     let filled = c .before .before .before .before .before .before .before in
     let typed = filled .before .before .before .before .before .before .before in
