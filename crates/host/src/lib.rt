@@ -32,6 +32,7 @@ pub extern "C" fn ambrothel_judge(p: &[u8], words: &mut [u64]) -> u32
     WRITTEN
 }
 
+// Numbers from the opening and texts from the product go straight into the rooms: a Directory on the way would be 16 kB copied once more.
 #[no_mangle]
 pub extern "C" fn ambrothel_open_directory(p: &[u8], words: &mut [u64], texts: &mut [u8]) -> u32
     ensures { λ r. ⌜ DirectoryCall (now (p .entry)) (now (words .entry)) (now (words .exit)) (now (texts .entry)) (now (texts .exit)) r ⌝ }
