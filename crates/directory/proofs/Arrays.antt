@@ -1,18 +1,15 @@
--- Arrays of 128 places and runs of texts that are filled one after the other, over any function of the number.
+-- Arrays of 128 places that are filled one after the other, over any function of the number.
 -- Assumes nothing.
-use Prim.Native.Nat.{ℕ, zero, suc, _+_, _*_, _-_, _≤_, _<_}
+use Prim.Native.Nat.{ℕ, suc, _+_, _-_, _<_}
 use mathlib.Core.List.{List, [], _∷_, _++_, map}
 use mathlib.Core.Path.{_≡_, refl, sym, ap, _∙_}
 use native.Mathlib.Omega.{arith}
-use native.Mathlib.Nat.{sub-zero, mul-le-mul-left}
-use lib.ListN.{length, drop, set, replicate, length-append, length-replicate}
-use lib.Seq.{append-snoc, set-at, sets, sets-eq, length-sets, take-at, drop-append-add}
-use Rattle.layout.specs.Search.{upto, join}
+use lib.ListN.{length, set, replicate, length-append}
+use lib.Seq.{append-snoc, set-at}
+use Rattle.layout.specs.Search.{upto}
 use Rattle.layout.specs.Answers.{padded}
-use Rattle.layout.proofs.Laws.{map-one-more, join-one-more}
+use Rattle.layout.proofs.Laws.{map-one-more}
 use Rattle.layout.proofs.Sound.{length-map-upto}
-
--- ---- an array that holds the first of them
 
 module _ {A : Type 0} (f : ℕ → A) (z : A) where
   pub none-held : replicate 128 z ≡ padded 128 z (map f (upto 0 0))
@@ -46,63 +43,3 @@ module _ {A : Type 0} (f : ℕ → A) (z : A) where
 
       right : 128 - (i + 1) ≡ 127 - i
       right = omega arith
-
--- ---- texts of one width put one after the other into zeros
-
-drop-zeros : (n m : ℕ) → drop {A = ℕ} n (replicate m 0) ≡ replicate (m - n) 0
-drop-zeros zero m = rw (sub-zero m)
-drop-zeros (suc n) zero = let q : 0 - suc n ≡ 0 = omega arith in rw q
-drop-zeros (suc n) (suc m) = let q : suc m - suc n ≡ m - n = omega arith in rw q (drop-zeros n m)
-
--- l holds the first i texts, each of w bytes; the next one goes to `next`
-pub record Copied (f : ℕ → List ℕ) (w total : ℕ) (l : List ℕ) (i next : ℕ) : Type 0 where
-  pub holds : l ≡ padded total 0 (join (map f (upto 0 i)))
-  pub behind : next ≡ length (join (map f (upto 0 i)))
-  pub wide : next ≡ w * i
-  pub long : length l ≡ total
-
--- one text more has room
-pub fits-one : (w i total next : ℕ) → next ≡ w * i → i < 128 → 128 * w ≤ total → next + w ≤ total
-fits-one w i total next e h r = let m : w * (i + 1) ≤ w * 128 = mul-le-mul-left w (omega arith) in omega arith
-
-module _ (f : ℕ → List ℕ) (w total : ℕ) where
-  pub none-copied : (l : List ℕ) → l ≡ replicate total 0 → Copied f w total l 0 0
-  unfolding padded
-  none-copied l e = record { holds = e ∙ rw (sub-zero total); behind = refl; wide = omega arith; long = rw e (length-replicate total 0) }
-
-  pub one-copied : (l : List ℕ) (i next : ℕ) (s l′ : List ℕ) (next′ : ℕ) → Copied f w total l i next → next + w ≤ total
-      → s ≡ f i → length s ≡ w → l′ ≡ sets l next s → next′ ≡ next + length s → Copied f w total l′ (i + 1) next′
-  unfolding padded
-  one-copied l i next s l′ next′ c h e k put n =
-      record {
-        holds = put ∙ ap (λ (x : List ℕ). sets x next s) (c .holds) ∙ pasted ∙ ap (λ (x : List ℕ). x ++ replicate (total - length x) 0) (sym more);
-        behind = n ∙ omega (arith, ap length more, length-append before s, c .behind);
-        wide = n ∙ omega (arith, c .wide, k);
-        long = ap length put ∙ length-sets l next s ∙ c .long;
-      }
-    where
-      before : List ℕ
-      before = join (map f (upto 0 i))
-
-      more : join (map f (upto 0 (i + 1))) ≡ before ++ s
-      more = join-one-more f i ∙ ap (λ (x : List ℕ). before ++ x) (sym e)
-
-      zeros : List ℕ
-      zeros = replicate (total - length before) 0
-
-      rest : drop (next + length s) (before ++ zeros) ≡ replicate (total - length (before ++ s)) 0
-      rest =
-          let q : total - length before - length s ≡ total - length (before ++ s) = omega (arith, length-append before s) in
-          ap (λ (n : ℕ). drop (n + length s) (before ++ zeros)) (c .behind)
-          ∙ drop-append-add before zeros (length s)
-          ∙ drop-zeros (length s) (total - length before)
-          ∙ ap (λ (n : ℕ). replicate n 0) q
-
-      fits : next + length s ≤ length (before ++ zeros)
-      fits = omega (arith, length-append before zeros, length-replicate {A = ℕ} (total - length before) 0, c .behind)
-
-      pasted : sets (before ++ zeros) next s ≡ (before ++ s) ++ replicate (total - length (before ++ s)) 0
-      pasted =
-          sets-eq s (before ++ zeros) next fits
-          ∙ ap (λ (x : List ℕ). x ++ s ++ drop (next + length s) (before ++ zeros)) (take-at before zeros next (sym (c .behind)))
-          ∙ ap (λ (x : List ℕ). (before ++ s) ++ x) rest

@@ -9,18 +9,16 @@ use lib.Dec.{eqb}
 use lib.IntN.{ℤ, pos}
 use lib.ListN.{length}
 use borrow.Author.Tests.{eqb-true}
-use Rattle.layout.specs.Search.{find, upto, join}
+use Rattle.layout.specs.Search.{find, upto}
 use Rattle.layout.specs.Entries.{Entry, entryFrom, entriesFrom, at, start, extent, isData, numbersFit}
 use Rattle.layout.specs.Rules.{isDataAt}
-use Rattle.layout.specs.Answers.{padded, typeOf, nameOf, filenameOf, countOf, recordSizeOf, directoryOf}
+use Rattle.layout.specs.Answers.{padded, typeOf, countOf, recordSizeOf, directoryOf}
 use Rattle.layout.proofs.Laws.{find-before, not-not}
 use Rattle.layout.proofs.Sound.{length-entries, at-entries}
 use Rattle.dsd.specs.declared.Entry.{Entry as HeldEntry}
 use Rattle.dsd.specs.Held.{heldOf, viewOf, overPlace, roleOf, Read}
 use Rattle.dsd.proofs.Views.{turn-held, over-held}
-use Rattle.dsd.proofs.Places.{entry-placed}
 use Rattle.directory.specs.Numbers.{setsOf, heldStart, heldExtent, heldRole, heldSets, directoryWith}
-use Rattle.directory.specs.Texts.{textAt, textsFrom}
 use Rattle.directory.specs.Checks.{overAt, unfitAt}
 use Rattle.directory.specs.declared.Sets.{Sets}
 
@@ -100,27 +98,6 @@ module _ (ds : List Entry) (none : find (overAt ds) 0 (length ds) ≡ length ds)
         map-at heldExtent extent ds (λ i l. turn-held (at ds i) (not-over i l) .sizes),
         map-at heldRole roleOf ds (λ i l. turn-held (at ds i) (not-over i l) .roles),
       )
-
--- ---- the texts
-
-module _ (b : List ℕ) (from n : ℕ) where
-  texts : (g : Entry → List ℕ) (place width total : ℕ) → ((i : ℕ) → textAt b from place width i ≡ g (entryFrom b from i))
-      → textsFrom b from n place width total ≡ padded total 0 (join (map g (entriesFrom b from n)))
-  unfolding textsFrom entriesFrom
-  texts g place width total h =
-      ap (λ (l : List (List ℕ)). padded total 0 (join l)) (same (upto 0 n) ∙ sym (map-map g (entryFrom b from) (upto 0 n)))
-    where
-      same : (l : List ℕ) → map (textAt b from place width) l ≡ map (λ i. g (entryFrom b from i)) l
-      same [] = refl
-      same (i ∷ l) = rw (h i, same l)
-
-  pub names-are : textsFrom b from n 9 28 3584 ≡ padded 3584 0 (join (map nameOf (entriesFrom b from n)))
-  unfolding textAt entryFrom
-  names-are = texts nameOf 9 28 3584 (λ i. sym (ap nameOf (entry-placed b (from + 280 * i))))
-
-  pub filenames-are : textsFrom b from n 59 62 7936 ≡ padded 7936 0 (join (map filenameOf (entriesFrom b from n)))
-  unfolding textAt entryFrom
-  filenames-are = texts filenameOf 59 62 7936 (λ i. sym (ap filenameOf (entry-placed b (from + 280 * i))))
 
 -- a directory by its own numbers
 pub with-numbers : (sets : Sets) (ds : List Entry) → sets ≡ setsOf ds → directoryWith sets ds ≡ directoryOf ds

@@ -2,24 +2,23 @@
 -- Assumes nothing.
 use Prim.Native.Nat.{ℕ, _+_, _*_, _≤_}
 use mathlib.Core.List.{List, map}
-use mathlib.Core.Path.{_≡_}
-use lib.ListN.{length, replicate}
+use lib.ListN.{length}
 use Rattle.layout.specs.Bytes.{part}
 use Rattle.layout.specs.Search.{join, upto}
 use Rattle.layout.specs.Answers.{padded}
 
--- that of DSD i, of DSDs that begin at `dsds`
+-- that of DSD i, of DSDs that begin at `from`
 unfoldable pub textAt : List ℕ → ℕ → ℕ → ℕ → ℕ → List ℕ
-textAt b dsds place width i = part b (dsds + 280 * i + place) width
+textAt b from place width i = part b (from + 280 * i + place) width
 
--- those of n DSDs one after the other, and zeros up to so many bytes
-unfoldable pub textsFrom : List ℕ → ℕ → ℕ → ℕ → ℕ → ℕ → List ℕ
-textsFrom b dsds n place width total = padded total 0 (join (map (textAt b dsds place width) (upto 0 n)))
+-- those of n DSDs one after the other, and zeros up to those of 128
+unfoldable pub textsFrom : List ℕ → ℕ → ℕ → ℕ → ℕ → List ℕ
+textsFrom b from n place width = padded (128 * width) 0 (join (map (textAt b from place width) (upto 0 n)))
 
--- n such texts are there, and zeros with room for them
-pub record Room (b : List ℕ) (dsds n place width : ℕ) (out : List ℕ) : Type 0 where
-  pub inside : dsds + 280 * n ≤ length b
+-- n such texts are there, none wider than FILENAME, and from a place on room for 128
+pub record Room (b : List ℕ) (from n place width : ℕ) (room : List ℕ) (at : ℕ) : Type 0 where
+  pub inside : from + 280 * n ≤ length b
   pub most : n ≤ 128
   pub within : place + width ≤ 280
-  pub room : 128 * width ≤ length out
-  pub zeros : out ≡ replicate (length out) 0
+  pub narrow : width ≤ 62
+  pub wide : at + 128 * width ≤ length room

@@ -4,14 +4,17 @@ use layout::Directory;
 use layout::Verdict;
 use values::MainHeader;
 use writing::put_text;
+use writing::put_zeros;
 ghost use mathlib.Core.Bool.{cond};
 ghost use mathlib.Core.Path.{_≡_};
 ghost use Prim.Native.Nat.{ℕ, _+_, _*_, _≤_, _<_};
 ghost use lib.Dec.{leb, ltb};
 ghost use lib.ListN.{length};
-ghost use Rattle.layout.specs.Answers.{verdictIs};
+ghost use Rattle.layout.specs.Answers.{verdictIs, directoryOf};
+ghost use Rattle.layout.specs.Bytes.{part};
 ghost use Rattle.layout.specs.Entries.{largestSigned, entriesFrom, directory};
 ghost use Rattle.layout.specs.Lines.{sizeOfDsd};
+ghost use Rattle.writing.specs.Put.{Put};
 ghost use Rattle.directory.specs.Numbers.{together, noSets, heldSets, directoryWith};
 ghost use Rattle.directory.specs.Texts.{textsFrom, Room};
 ghost use Rattle.directory.specs.Checks.{Dsds, SparesByFirst, Counted, ReadFrom, textRules, numberRules, Placed};
@@ -207,19 +210,55 @@ pub fn check_places<'a>(
     Verdict::Accepted
 }
 
-// A text of each of n DSDs, from `place` on in the DSD and `width` bytes wide, one after the other into zeros.
-fn copy_texts(p: &[u8], dsds: usize, n: usize, place: usize, width: usize, out: &mut [u8])
-    requires { ⌜ Room (now p) dsds n place width (now out) ⌝ }
-    ensures { λ _. ⌜ now (out .exit) ≡ textsFrom (now (p .entry)) dsds n place width (length (now (out .entry))) ⌝ }
+// A text of at most 62 bytes out of lent ones, by way of an array made here: straight into a lent room, the copy would first ask whether they overlap.
+fn put_lent(room: &mut [u8], at: usize, p: &[u8], start: usize, width: usize) -> usize
+    requires { ⌜ (width ≤ 62) × (start + width ≤ length (now p)) × (at + width ≤ length (now room)) ⌝ }
+    ensures { λ r. ⌜ Put width (part (now (p .entry)) start width) (now (room .entry)) (now (room .exit)) at r ⌝ }
 {
-    let mut next = 0;
+    let mut text = [0u8; 62];
+    let end = start + width;
+    put_text(&mut text, 0, &p[start..end]);
+    put_text(room, at, &text[..width])
+}
+
+// A text of each of n DSDs, from `place` on in the DSD and `width` bytes wide, one behind the other, and zeros up to those of 128 DSDs.
+fn put_texts(
+    room: &mut [u8],
+    at: usize,
+    p: &[u8],
+    from: usize,
+    n: usize,
+    place: usize,
+    width: usize,
+) -> usize
+    requires { ⌜ Room (now p) from n place width (now room) at ⌝ }
+    ensures { λ r. ⌜ Put (128 * width) (textsFrom (now (p .entry)) from n place width) (now (room .entry)) (now (room .exit)) at r ⌝ }
+{
+    let mut next = at;
     let mut i = 0;
     while i < n {
-        let start = dsds + Entry::SIZE * i + place;
-        let end = start + width;
-        next = put_text(out, next, &p[start..end]);
+        let start = from + Entry::SIZE * i + place;
+        next = put_lent(room, next, p, start, width);
         i += 1;
     }
+    let end = at + 128 * width;
+    put_zeros(room, next, end - next)
+}
+
+// The names of the DSDs that begin at a place, unused places zero.
+pub fn put_names(room: &mut [u8], at: usize, p: &[u8], from: usize, n: usize) -> usize
+    requires { ⌜ (from + sizeOfDsd * n ≤ length (now p)) × (n ≤ 128) × (at + 3584 ≤ length (now room)) ⌝ }
+    ensures { λ r. ⌜ Put 3584 (directoryOf (entriesFrom (now (p .entry)) from n) .names) (now (room .entry)) (now (room .exit)) at r ⌝ }
+{
+    put_texts(room, at, p, from, n, 9, 28)
+}
+
+// Their FILENAMEs.
+pub fn put_filenames(room: &mut [u8], at: usize, p: &[u8], from: usize, n: usize) -> usize
+    requires { ⌜ (from + sizeOfDsd * n ≤ length (now p)) × (n ≤ 128) × (at + 7936 ≤ length (now room)) ⌝ }
+    ensures { λ r. ⌜ Put 7936 (directoryOf (entriesFrom (now (p .entry)) from n) .filenames) (now (room .entry)) (now (room .exit)) at r ⌝ }
+{
+    put_texts(room, at, p, from, n, 59, 62)
 }
 
 // The directory of the DSDs that begin at a place, whose numbers are at hand: a product's, or those that a host holds.
@@ -235,8 +274,8 @@ pub fn directory_from(p: &[u8], from: usize, sets: Sets) -> Directory
     let record_sizes = sets.record_sizes;
     let mut names = [0u8; 3584];
     let mut filenames = [0u8; 7936];
-    copy_texts(p, from, entries, 9, 28, &mut names);
-    copy_texts(p, from, entries, 59, 62, &mut filenames);
+    put_names(&mut names, 0, p, from, entries);
+    put_filenames(&mut filenames, 0, p, from, entries);
     Directory {
         entries,
         types,

@@ -1,7 +1,10 @@
 // The reader for C and Rust: every public call, its answer written into rooms that the host lends. `include/ambrothel.h` declares them.
 // A room too short for the answer returns 1, and nothing is written.
+use layout::Directory;
+use layout::Verdict;
 use words::ROOM_TOO_SHORT;
 use words::WRITTEN;
+use words::put_directory_numbers;
 use words::put_doubles;
 use words::put_field;
 use words::put_part;
@@ -29,14 +32,38 @@ pub extern "C" fn ambrothel_judge(p: &[u8], words: &mut [u64]) -> u32
     WRITTEN
 }
 
+// Numbers from the opening and texts from the product go straight into the rooms: a Directory on the way would be 16 kB copied once more.
 #[no_mangle]
 pub extern "C" fn ambrothel_open_directory(p: &[u8], words: &mut [u64], texts: &mut [u8]) -> u32
     ensures { λ r. ⌜ DirectoryCall (now (p .entry)) (now (words .entry)) (now (words .exit)) (now (texts .entry)) (now (texts .exit)) r ⌝ }
 {
-    let answer = product::open_directory(p);
-    let verdict = answer.verdict;
-    let directory = answer.directory;
-    put_whole_directory(verdict, directory, words, texts)
+    if words.len() < 644 {
+        return ROOM_TOO_SHORT;
+    }
+    if texts.len() < 11520 {
+        return ROOM_TOO_SHORT;
+    }
+    let opened = opening::open_headers(p, p.len() as u64);
+    let verdict = opening::judge_opened(p, opened);
+    if let Verdict::Refused(refusal) = verdict {
+        return put_whole_directory(Verdict::Refused(refusal), Directory::none(), words, texts);
+    }
+    let sets = opened.sets;
+    let entries = sets.entries;
+    put_directory_numbers(
+        words,
+        Verdict::Accepted,
+        entries,
+        &sets.types,
+        &sets.offsets,
+        &sets.sizes,
+        &sets.counts,
+        &sets.record_sizes,
+    );
+    let dsds = opened.dsds;
+    let named = directory::put_names(texts, 0, p, dsds, entries);
+    directory::put_filenames(texts, named, p, dsds, entries);
+    WRITTEN
 }
 
 #[no_mangle]

@@ -2,6 +2,7 @@
 -- Assumes nothing.
 use Prim.Native.Nat.{ℕ, _+_}
 use mathlib.Core.List.{List, [], _∷_, _++_, map}
+use lib.IntN.{ℤ}
 use lib.ListN.{length}
 use Rattle.layout.specs.Answer.{Answer}
 use Rattle.values.specs.declared.Identity.{Identity}
@@ -42,8 +43,11 @@ headerTexts h = identityTexts (h .identity) ++ ((h .sensing .«sensing_start» +
 
 -- ---- the directory: how many entries, then each number of all 128 places; its names, then its FILENAMEs
 
+abbrev pub numberWords : Answer → ℕ → (types offsets sizes counts : List ℕ) → List ℤ → List ℕ
+numberWords v n types offsets sizes counts record-sizes = verdictWords v ++ ((n ∷ []) ++ (types ++ ((offsets ++ (sizes ++ counts)) ++ map word record-sizes)))
+
 unfoldable pub directoryWords : Answer → Directory → List ℕ
-directoryWords v d = verdictWords v ++ ((d .entries ∷ []) ++ (d .types ++ ((d .offsets ++ (d .sizes ++ d .counts)) ++ map word (d .«record_sizes»))))
+directoryWords v d = numberWords v (d .entries) (d .types) (d .offsets) (d .sizes) (d .counts) (d .«record_sizes»)
 
 unfoldable pub directoryTexts : Directory → List ℕ
 directoryTexts d = d .names ++ d .filenames

@@ -17,7 +17,7 @@ ghost use Prim.Native.Nat.{_+_, _≤_};
 ghost use lib.ListN.{length};
 ghost use Rattle.layout.specs.Answers.{verdictIs};
 ghost use Rattle.writing.specs.Put.{Put};
-ghost use Rattle.words.specs.Headers.{identityWords, sensingWords, orbitWords, clockWords, sizesWords, headerWords, identityTexts, headerTexts, directoryWords, directoryTexts, PutTwo, PutThree};
+ghost use Rattle.words.specs.Headers.{identityWords, sensingWords, orbitWords, clockWords, sizesWords, headerWords, identityTexts, headerTexts, numberWords, directoryWords, directoryTexts, PutTwo, PutThree};
 
 fn put_identity(room: &mut [u64], at: usize, header: Identity) -> usize
     requires { ⌜ at + 1 ≤ length (now room) ⌝ }
@@ -151,24 +151,43 @@ fn put_arrays<'a>(
     put_words(room, sized, counts)
 }
 
+// The numbers of a directory by its parts.
+pub fn put_directory_numbers<'a>(
+    room: &mut [u64],
+    verdict: Verdict,
+    entries: usize,
+    types: &'a [u8; 128],
+    offsets: &'a [u64; 128],
+    sizes: &'a [u64; 128],
+    counts: &'a [u64; 128],
+    record_sizes: &'a [i64; 128],
+) -> usize
+    requires { ⌜ 644 ≤ length (now room) ⌝ }
+    ensures { λ r. ⌜ Put 644 (numberWords (verdictIs verdict) entries (now (types .entry)) (now (offsets .entry)) (now (sizes .entry)) (now (counts .entry)) (now («record_sizes» .entry))) (now (room .entry)) (now (room .exit)) 0 r ⌝ }
+{
+    let number = [entries as u64];
+    let judged = put_verdict(room, verdict);
+    let counted = put_words(room, judged, &number);
+    let typed = put_bytes(room, counted, types);
+    let filled = put_arrays(room, typed, offsets, sizes, counts);
+    put_numbers(room, filled, record_sizes)
+}
+
 pub(crate) fn put_directory(room: &mut [u64], verdict: Verdict, directory: Directory) -> usize
     requires { ⌜ 644 ≤ length (now room) ⌝ }
     ensures { λ r. ⌜ Put 644 (directoryWords (verdictIs verdict) directory) (now (room .entry)) (now (room .exit)) 0 r ⌝ }
 {
-    let entries = [directory.entries as u64];
-    let judged = put_verdict(room, verdict);
-    let counted = put_words(room, judged, &entries);
-    // A copy of the types alone: lent out of the directory, they would keep a copy of it all.
-    let types = directory.types;
-    let typed = put_bytes(room, counted, &types);
-    let filled = put_arrays(
+    let entries = directory.entries;
+    put_directory_numbers(
         room,
-        typed,
+        verdict,
+        entries,
+        &directory.types,
         &directory.offsets,
         &directory.sizes,
         &directory.counts,
-    );
-    put_numbers(room, filled, &directory.record_sizes)
+        &directory.record_sizes,
+    )
 }
 
 pub(crate) fn put_directory_texts(room: &mut [u8], directory: Directory) -> usize

@@ -3,6 +3,7 @@
 mod headers;
 mod rooms;
 
+pub use headers::put_directory_numbers;
 use layout::Field;
 use layout::FieldAnswer;
 use layout::Place;

@@ -5,8 +5,8 @@ use mathlib.Core.Path.{_≡_, refl, sym, ap, _∙_, subst}
 use mathlib.Core.List.{List, [], _∷_, _++_, append-nil}
 use native.Mathlib.Omega.{arith}
 use native.Mathlib.Nat.{add-zero, zero-add, add-suc, suc-add}
-use lib.ListN.{length, take, drop, getD, set, length-append, length-drop}
-use lib.Seq.{sets, sets-eq, take-suc, take-at, drop-at, take-append-le, drop-append-le, drop-append-add, take-set-le, drop-set-lt, drop-set-add, drop-length, length-take-le}
+use lib.ListN.{length, take, drop, getD, set, replicate, length-append, length-drop, length-replicate, replicate-append-replicate}
+use lib.Seq.{sets, sets-eq, length-sets, take-suc, take-at, drop-at, take-append-le, drop-append-le, drop-append-add, take-set-le, drop-set-lt, drop-set-add, drop-length, length-take-le}
 use Rattle.layout.specs.Bytes.{part}
 use Rattle.writing.specs.Put.{Put, Written}
 
@@ -26,6 +26,9 @@ module _ {A : Type 0} where
   pub at-most : (v : ℕ) {w : ℕ} {text old new : List A} {at r : ℕ} → Put w text old new at r → length text ≤ v → Put v text old new at r
   at-most v p h = record { next = p .next; written = p .written; narrow = h }
 
+  pub same-room : {w : ℕ} {text old new : List A} {at r : ℕ} → Put w text old new at r → length new ≡ length old
+  same-room {w} {text} {old} {new} {at} p = ap length (p .written) ∙ length-sets old at text
+
   -- the text written otherwise
   pub spelled : {w : ℕ} {a b old new : List A} {at r : ℕ} → a ≡ b → Put w a old new at r → Put w b old new at r
   spelled {w} {a} {b} {old} {new} {at} {r} e p = subst (λ (text : List A). Put w text old new at r) e p
@@ -33,6 +36,10 @@ module _ {A : Type 0} where
   -- a turn of the loop that copies a text
   pub one-more : (old text : List A) (at i : ℕ) (z : A) → i < length text → set (sets old at (take i text)) (at + i) (getD text i z) ≡ sets old at (take (suc i) text)
   one-more old text at i z h = rw (take-suc text i z h, sets-append old at (take i text) (getD text i z ∷ []), length-take-le i text (omega arith))
+
+  -- and of the one that stores one element over and over
+  pub once-more : (old : List A) (at i : ℕ) (z : A) → set (sets old at (replicate i z)) (at + i) z ≡ sets old at (replicate (i + 1) z)
+  once-more old at i z = rw (← replicate-append-replicate i 1 z, sets-append old at (replicate i z) (z ∷ []), length-replicate i z)
 
   -- from the first place on
   pub at-first : {w : ℕ} {text old new : List A} {r : ℕ} → Put w text old new 0 r → length text ≤ length old → new ≡ text ++ drop (length text) old

@@ -3,7 +3,7 @@ ghost use mathlib.Core.Path.{_≡_};
 ghost use mathlib.Core.List.{_∷_, _++_, []};
 ghost use Prim.Native.Nat.{_+_, _≤_};
 ghost use lib.IntN.{natAbs};
-ghost use lib.ListN.{length};
+ghost use lib.ListN.{length, replicate};
 ghost use Rattle.layout.specs.Bytes.{part};
 ghost use Rattle.layout.specs.Listing.{decimal, signedDecimal, trimmed};
 ghost use Rattle.writing.specs.Put.{Put};
@@ -26,6 +26,18 @@ pub fn put_text(out: &mut [u8], at: usize, text: &[u8]) -> usize
         i += 1;
     }
     at + text.len()
+}
+
+pub fn put_zeros(out: &mut [u8], at: usize, count: usize) -> usize
+    requires { ⌜ at + count ≤ length (now out) ⌝ }
+    ensures { λ r. ⌜ Put count (replicate count 0) (now (out .entry)) (now (out .exit)) at r ⌝ }
+{
+    let mut i = 0;
+    while i < count {
+        out[at + i] = 0;
+        i += 1;
+    }
+    at + count
 }
 
 // Digits, the leading ones first: at most 20 deep.

@@ -1,30 +1,36 @@
 -- `directory::directory_from` meets its contract.
 -- Assumes nothing.
-use mathlib.Core.Path.{_∙_}
-use borrow.Author.Needs.{needs}
+use Prim.Native.Nat.{ℕ}
+use mathlib.Core.Path.{sym, _∙_}
+use lib.ListN.{length-replicate}
+use Rattle.layout.specs.Answers.{directoryOf}
+use Rattle.writing.proofs.Puts.{fills}
 use Rattle.directory.specs.Numbers.{directoryWith}
-use Rattle.directory.proofs.Held.{names-are, filenames-are}
+use Rattle.directory.proofs.Texts.{names-long, filenames-long}
+use borrow.Author.Needs.{needs}
 use Rattle.directory.proofs.directory_from.Statement.{statement}
 use Rattle.directory.proofs.directory_from.Tie as tie
 
-slice-aggregate-copy-texts : tie.Need-slice-aggregate-copy-texts
-slice-aggregate-copy-texts c = search needs
+slice-aggregate-put-names : tie.Need-slice-aggregate-put-names
+slice-aggregate-put-names c = search needs
 
-copy-texts-requires : tie.Need-copy-texts-requires
-copy-texts-requires c κs = search needs
+put-names-requires : tie.Need-put-names-requires
+put-names-requires c κs = search needs
 
-slice-aggregate-copy-texts-2 : tie.Need-slice-aggregate-copy-texts-2
-slice-aggregate-copy-texts-2 c = search needs
+slice-aggregate-put-filenames : tie.Need-slice-aggregate-put-filenames
+slice-aggregate-put-filenames c = search needs
 
-copy-texts-requires-2 : tie.Need-copy-texts-requires-2
-copy-texts-requires-2 c κs = search needs
+put-filenames-requires : tie.Need-put-filenames-requires
+put-filenames-requires c κs = search needs
 
 returns : tie.Need-returns
-unfolding directoryWith
+unfolding directoryWith directoryOf
 returns c =
-    let args = c .before .before .before .before .before .before .before .before .before .before .before .before .args in
-    let names = c .before .before .before .before .copy-texts .ensures ∙ names-are (args .p .now) (args .from) (args .sets .entries) in
-    let filenames = c .before .copy-texts2 .ensures ∙ filenames-are (args .p .now) (args .from) (args .sets .entries) in
+    let start = c .before .before .before .before .before .before .before .before .before .before .before .before in
+    let args = start .args in
+    let few = start .pre .1 in
+    let names = fills (c .before .before .before .before .put-names .ensures) (names-long (args .p .now) (args .from) (args .sets .entries) few ∙ sym (length-replicate {A = ℕ} 3584 0)) in
+    let filenames = fills (c .before .put-filenames .ensures) (filenames-long (args .p .now) (args .from) (args .sets .entries) few ∙ sym (length-replicate {A = ℕ} 7936 0)) in
     λ j. record {
       entries = args .sets .entries;
       types = args .sets .types;
@@ -40,8 +46,8 @@ pub directory-from-spec : {M : Type 1} → statement M
 directory-from-spec =
     tie.close
     (tie.spec
-    slice-aggregate-copy-texts
-    copy-texts-requires
-    slice-aggregate-copy-texts-2
-    copy-texts-requires-2
+    slice-aggregate-put-names
+    put-names-requires
+    slice-aggregate-put-filenames
+    put-filenames-requires
     returns)
