@@ -8,7 +8,7 @@ use layout::Verdict;
 use values::MainHeader;
 ghost use mathlib.Core.Path.{_≡_};
 ghost use Prim.Native.Nat.{_+_, _*_, _-_, _≤_, _<_};
-ghost use mathlib.Core.Bool.{not};
+ghost use mathlib.Core.Bool.{true, not};
 ghost use lib.Dec.{T, eqb};
 ghost use lib.ListN.{length};
 ghost use Rattle.layout.specs.Bytes.{bytes, part};
@@ -211,34 +211,51 @@ fn lines_check(
     literal_span(p, template, from, template.len())
 }
 
-// The bytes of `p` from `at` on lie between the lowest and the highest that may stand at their places. A quote stands only where one is asked for, and
-// between + and - lies a comma. They are tested as a whole, without an exit, so that they are tested side by side.
-fn laid_in(p: &[u8], at: usize, lowest: &[u8], highest: &[u8]) -> bool
-    requires { ⌜ (at + length (now lowest) ≤ length (now p)) × (length (now lowest) ≤ length (now highest)) ⌝ }
-    ensures { λ r. ⌜ r ≡ not (some (misplaced (now (lowest .entry)) (now (highest .entry)) (now (p .entry)) at) 0 (length (now (lowest .entry)))) ⌝ }
+// The places `from..to` of a header that begins at `at` have bytes between the lowest and the highest that may stand there, none of them barred. They are
+// tested as a whole, without an exit, so that they are tested side by side.
+fn laid_in(
+    p: &[u8],
+    at: usize,
+    lowest: &[u8],
+    highest: &[u8],
+    barred: &[u8],
+    from: usize,
+    to: usize,
+) -> bool
+    requires { ⌜ (from ≤ to) × (at + to ≤ length (now p)) × (to ≤ length (now lowest)) × (to ≤ length (now highest)) × (to ≤ length (now barred)) ⌝ }
+    ensures { λ r. ⌜ r ≡ not (some (misplaced (now (lowest .entry)) (now (highest .entry)) (now (barred .entry)) (now (p .entry)) at) from (to - from)) ⌝ }
 {
     let mut all = true;
-    let mut i = 0;
-    while i < lowest.len() {
+    let mut i = from;
+    while i < to {
         let x = p[at + i];
-        let low = lowest[i];
-        let high = highest[i];
-        all = all
-            & (((low <= x) & (x <= high))
-                & (((x != b'"') | (low == b'"')) & ((x != b',') | (high != b'-'))));
+        all = all & (((lowest[i] <= x) & (x <= highest[i])) & (x != barred[i]));
         i += 1;
     }
     all
 }
 
-// The first byte of the main header that is not as laid out, or its end.
-pub fn main_header_check(p: &[u8]) -> usize
+// The whole main header is as laid out. In parts, each short enough that the compiler unrolls it: then it needs no copy of the tables.
+fn main_header_laid(p: &[u8]) -> bool
     requires { ⌜ sizeOfMph ≤ length (now p) ⌝ }
-    ensures { λ r. ⌜ laidOut 3 128 0 (layout mph) (now (p .entry)) ≡ need (eqb r sizeOfMph) 3 r 128 ⌝ }
+    ensures { λ r. ⌜ (r ≡ true → sizeOfMph ≡ badPlace (layout mph) (now (p .entry)) 0) ⌝ }
 {
-    if laid_in(p, 0, &tables::MPH_LOWEST, &tables::MPH_HIGHEST) {
-        return MainHeader::SIZE;
-    }
+    let lowest = tables::MPH_LOWEST;
+    let highest = tables::MPH_HIGHEST;
+    let barred = tables::MPH_BARRED;
+    let first = laid_in(p, 0, &lowest, &highest, &barred, 0, 256);
+    let second = laid_in(p, 0, &lowest, &highest, &barred, 256, 512);
+    let third = laid_in(p, 0, &lowest, &highest, &barred, 512, 768);
+    let fourth = laid_in(p, 0, &lowest, &highest, &barred, 768, 1024);
+    let last = laid_in(p, 0, &lowest, &highest, &barred, 1023, MainHeader::SIZE);
+    (first & second) & ((third & fourth) & last)
+}
+
+// The first byte of the main header that is not as laid out, or its end, by the rows of its table.
+fn main_header_lines(p: &[u8]) -> usize
+    requires { ⌜ sizeOfMph ≤ length (now p) ⌝ }
+    ensures { λ r. ⌜ r ≡ badPlace (layout mph) (now (p .entry)) 0 ⌝ }
+{
     lines_check(
         p,
         &tables::MPH_LOWEST,
@@ -247,6 +264,17 @@ pub fn main_header_check(p: &[u8]) -> usize
         &tables::MPH_KINDS,
         &tables::MPH_WIDTHS,
     )
+}
+
+// The same.
+pub fn main_header_check(p: &[u8]) -> usize
+    requires { ⌜ sizeOfMph ≤ length (now p) ⌝ }
+    ensures { λ r. ⌜ laidOut 3 128 0 (layout mph) (now (p .entry)) ≡ need (eqb r sizeOfMph) 3 r 128 ⌝ }
+{
+    if main_header_laid(p) {
+        return MainHeader::SIZE;
+    }
+    main_header_lines(p)
 }
 
 // The same of the DSD that begins at `at`, by the rows of its table.
@@ -267,15 +295,15 @@ fn dsd_lines(p: &[u8], at: usize) -> usize
 }
 
 // The same of any DSD, with the ranges of its bytes lent. One whose first byte is a blank is a spare. The type is tested by itself: M, A, G, R are no range.
-fn dsd_check(p: &[u8], at: usize, lowest: &[u8], highest: &[u8]) -> usize
-    requires { ⌜ (at + sizeOfDsd ≤ length (now p)) × DsdRanges (now lowest) (now highest) ⌝ }
+fn dsd_check(p: &[u8], at: usize, lowest: &[u8], highest: &[u8], barred: &[u8]) -> usize
+    requires { ⌜ (at + sizeOfDsd ≤ length (now p)) × DsdRanges (now lowest) (now highest) (now barred) ⌝ }
     ensures { λ r. ⌜ r ≡ badInDsd (now (p .entry)) at ⌝ }
 {
     if p[at] == b' ' {
         return spare_check(p, at, Entry::SIZE - 1);
     }
     if is_type(p[at + tables::DSD_TYPE_AT]) {
-        if laid_in(p, at, lowest, highest) {
+        if laid_in(p, at, lowest, highest, barred, 0, Entry::SIZE) {
             return at + Entry::SIZE;
         }
     }
@@ -289,10 +317,11 @@ pub fn dsds_check(p: &[u8], from: usize, n: usize) -> Verdict
 {
     let lowest = tables::DSD_LOWEST;
     let highest = tables::DSD_HIGHEST;
+    let barred = tables::DSD_BARRED;
     let mut i = 0;
     while i < n {
         let at = from + Entry::SIZE * i;
-        let bad = dsd_check(p, at, &lowest, &highest);
+        let bad = dsd_check(p, at, &lowest, &highest, &barred);
         if bad != at + Entry::SIZE {
             return Verdict::refuse(8, bad as u64, i);
         }

@@ -1,7 +1,7 @@
 -- The turns of the loop over a number's digits, digits in pairs and in halves, and the value of a number.
 -- Assumes nothing.
 use Prim.Native.Nat.{ℕ, zero, suc, _+_, _*_, _-_, _^_, _≤_, _<_, min}
-use mathlib.Core.Bool.{Bool, true, false, cond, _&&_, not}
+use mathlib.Core.Bool.{Bool, true, false, cond, not}
 use mathlib.Core.List.{List, [], _∷_}
 use mathlib.Core.Path.{_≡_, refl, sym, ap, _∙_, subst}
 use native.Mathlib.Omega.{arith}
@@ -15,7 +15,6 @@ use mir.Syntax.{w64}
 use mir.Val.{SFits, toZ, ofZ}
 use mir.Facts.{toZ-ofZ}
 use borrow.Author.Tests.{eqb-true, eq-eqb, ne-eqb, lt-ltb}
-use Rattle.layout.proofs.Laws.{and-T}
 use Rattle.layout.proofs.Tests.{is-true}
 use Rattle.layout.specs.Bytes.{part, byteAt}
 use Rattle.layout.specs.Text.{exactly, digit, fits, digits, numberOf}
@@ -182,10 +181,6 @@ module _ (b : List ℕ) where
         → (r ≡ digits 0 (part b (from + 10) 10)) × (r < 10 ^ 10) → r ≡ capped (digits 0 (part b from (to - from)))
     unfolding capped
     twenty-is r w l zeros h e = rw (w, in-two 10 from (from + 10) 10 refl (omega arith) h, digits-zero 10 from (omega arith) zeros, ← (e .0)) (omega (arith, e .1))
-
--- two tests as one
-pub both-true : (a b : Bool) → (a && b) ≡ true → (a ≡ true) × (b ≡ true)
-both-true a b e = let g = and-T a b .0 (rw e tt) in (is-true a (g .0), is-true b (g .1))
 
 -- ---- the value
 

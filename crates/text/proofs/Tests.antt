@@ -1,7 +1,7 @@
--- The tests of single bytes.
+-- The tests of single bytes, and of two at once.
 -- Assumes nothing.
 use Prim.Native.Nat.{ℕ, _≤_}
-use mathlib.Core.Bool.{Bool, true, false, not}
+use mathlib.Core.Bool.{Bool, true, false, _&&_, not}
 use mathlib.Core.List.{List}
 use mathlib.Core.Path.{_≡_, _∙_, subst, sym}
 use lib.Dec.{T, leb, eqb, leb→le}
@@ -10,6 +10,7 @@ use borrow.Author.Tests.{eq-eqb, ne-eqb}
 use Rattle.layout.specs.Bytes.{byteAt}
 use Rattle.layout.specs.Text.{digit, fits}
 use Rattle.layout.proofs.Laws.{and-T, not-not}
+use Rattle.layout.proofs.Tests.{is-true}
 use Rattle.text.specs.Blanks.{notBlank}
 use Rattle.text.specs.Runs.{fails}
 
@@ -52,3 +53,7 @@ not-failing t b i e = go (t (byteAt b i)) e
     go : (u : Bool) → not u ≡ false → T u
     go true q = tt
     go false q = subst (λ (v : Bool). T v) q tt
+
+-- two tests as one
+pub both-true : (a b : Bool) → (a && b) ≡ true → (a ≡ true) × (b ≡ true)
+both-true a b e = let g = and-T a b .0 (rw e tt) in (is-true a (g .0), is-true b (g .1))

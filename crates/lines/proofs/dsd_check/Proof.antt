@@ -6,7 +6,7 @@ use borrow.Author.Needs.{needs}
 use Rattle.layout.specs.Lines.{spareDsd}
 use Rattle.layout.specs.Text.{layout, lineClasses}
 use Rattle.lines.proofs.Headers.{bad-spare, bad-dsd}
-use Rattle.lines.proofs.Ranges.{dsd-laid}
+use Rattle.lines.proofs.Ranges.{stand, dsd-laid}
 use Rattle.lines.proofs.dsd_check.Statement.{statement}
 use Rattle.lines.proofs.dsd_check.Tie as tie
 
@@ -34,17 +34,19 @@ is-type-requires c κs = search needs
 
 laid-in-requires : tie.Need-laid-in-requires
 laid-in-requires c κs =
-    let entry = c .before .before .before .before .before .before .before .before in
-    (omega (arith, entry .pre .0, entry .pre .1 .low), omega (arith, entry .pre .1 .low, entry .pre .1 .high))
+    let entry = c .before .before .before .before .before .before .before .before .before in
+    let ranges = entry .pre .1 in
+    (omega arith, omega (arith, entry .pre .0), omega (arith, ranges .low), omega (arith, ranges .high), omega (arith, ranges .out))
 
 add-result : tie.Need-add-result
 add-result c = search needs
 
 returns-2 : tie.Need-returns-2
 returns-2 c =
-    let ranges = c .before .before .before .before .before .before .before .before .before .before .pre .1 in
+    let entry = c .before .before .before .before .before .before .before .before .before .before .before in
     let type = c .before .before .before .is-type .ensures in
-    bad-dsd _ _ _ (c .before .before .before .before .before .if1 .left) (dsd-laid _ _ _ _ _ _ (c .before .laid-in .ensures) (c .if3 .taken) ranges (ranges .low) (sym type ∙ c .before .before .if2 .taken))
+    let all = stand _ _ _ _ _ 0 280 _ (c .before .laid-in .ensures) (c .if3 .taken) in
+    bad-dsd _ _ _ (c .before .before .before .before .before .if1 .left) (dsd-laid _ _ _ _ _ (entry .pre .1) all (sym type ∙ c .before .before .if2 .taken))
 
 dsd-lines-requires : tie.Need-dsd-lines-requires
 dsd-lines-requires c κs = search needs

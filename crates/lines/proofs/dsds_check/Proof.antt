@@ -18,10 +18,10 @@ use Rattle.lines.proofs.dsds_check.Statement.{statement}
 use Rattle.lines.proofs.dsds_check.Tie as tie
 
 abbrev Inv-loop : tie.InvT-loop
-Inv-loop p from n lowest highest i₀ i = (i ≤ n) × (first (rule8From p from) 0 n ≡ first (rule8From p from) i (n - i))
+Inv-loop p from n lowest highest barred i₀ i = (i ≤ n) × (first (rule8From p from) 0 n ≡ first (rule8From p from) i (n - i))
 
 abbrev μ-loop : tie.MeasureT-loop
-μ-loop p from n lowest highest i₀ i = n - i
+μ-loop p from n lowest highest barred i₀ i = n - i
 
 loop-holds : tie.Need-loop-holds Inv-loop μ-loop
 loop-holds c = (omega arith, rw (sub-zero (c .before .args .n)))
@@ -38,9 +38,12 @@ slice-aggregate-dsd-check c = omega arith
 slice-aggregate-dsd-check-2 : tie.Need-slice-aggregate-dsd-check-2 Inv-loop μ-loop
 slice-aggregate-dsd-check-2 c = omega arith
 
+slice-aggregate-dsd-check-3 : tie.Need-slice-aggregate-dsd-check-3 Inv-loop μ-loop
+slice-aggregate-dsd-check-3 c = omega arith
+
 dsd-check-requires : tie.Need-dsd-check-requires Inv-loop μ-loop
 unfolding narrow strict strictBut placeOf quoteWidth layout dsd lineClasses valueClasses
-dsd-check-requires c κs = (omega arith, record { low = refl; high = refl; tight = tt })
+dsd-check-requires c κs = (omega arith, record { low = refl; high = refl; out = refl; tight = tt })
 
 add-if1 : tie.Need-add-if1 Inv-loop μ-loop
 add-if1 c = omega arith
@@ -51,8 +54,8 @@ refuse-requires c κs = search needs
 returns : tie.Need-returns Inv-loop μ-loop
 unfolding verdictIs
 returns c =
-    let args = c .before .before .before .before .before .before .before .before .args in
-    let turn = c .before .before .before .before .before .before .loop in
+    let args = c .before .before .before .before .before .before .before .before .before .args in
+    let turn = c .before .before .before .before .before .before .before .loop in
     let answer = dsd-answer (args .p .now) (args .from) (turn .i) _ (c .before .before .dsd-check .ensures) (omega arith) in
     c .refuse .ensures ∙ sym (left-refused _ _ _ (turn .inv .1) (omega arith) (answer ∙ rw (ne-eqb _ _ (c .before .if1 .taken))))
 
@@ -64,8 +67,8 @@ loop-less c = omega arith
 
 loop-again : tie.Need-loop-again Inv-loop μ-loop
 loop-again c =
-    let args = c .before .before .before .before .before .before .before .args in
-    let turn = c .before .before .before .before .before .loop in
+    let args = c .before .before .before .before .before .before .before .before .args in
+    let turn = c .before .before .before .before .before .before .loop in
     let answer = dsd-answer (args .p .now) (args .from) (turn .i) _ (c .before .dsd-check .ensures) (omega arith) in
     (omega arith, left-next _ _ _ (turn .inv .1) (omega arith) (answer ∙ rw (eq-eqb _ _ (c .if1 .left))))
 
@@ -84,6 +87,7 @@ dsds-check-spec =
     add-at
     slice-aggregate-dsd-check
     slice-aggregate-dsd-check-2
+    slice-aggregate-dsd-check-3
     dsd-check-requires
     add-if1
     refuse-requires

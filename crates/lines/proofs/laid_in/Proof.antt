@@ -4,22 +4,21 @@ use Prim.Native.Nat.{_≤_, _-_}
 use mathlib.Core.Bool.{not}
 use mathlib.Core.Path.{_≡_}
 use native.Mathlib.Omega.{arith}
-use lib.ListN.{length}
 use Rattle.layout.specs.Search.{some}
-use Rattle.text.proofs.Runs.{all-none, all-more, all-end}
+use Rattle.text.proofs.Runs.{all-none, all-end}
 use Rattle.lines.specs.Ranges.{misplaced}
-use Rattle.lines.proofs.Ranges.{byte-test}
+use Rattle.lines.proofs.Ranges.{byte-test, one-more}
 use Rattle.lines.proofs.laid_in.Statement.{statement}
 use Rattle.lines.proofs.laid_in.Tie as tie
 
 abbrev Inv-loop : tie.InvT-loop
-Inv-loop p at lowest highest all₀ i₀ all i = (i ≤ length lowest) × (all ≡ not (some (misplaced lowest highest p at) 0 i))
+Inv-loop p at lowest highest barred from to all₀ i₀ all i = (from ≤ i) × (i ≤ to) × (all ≡ not (some (misplaced lowest highest barred p at) from (i - from)))
 
 abbrev μ-loop : tie.MeasureT-loop
-μ-loop p at lowest highest all₀ i₀ all i = length lowest - i
+μ-loop p at lowest highest barred from to all₀ i₀ all i = to - i
 
 loop-holds : tie.Need-loop-holds Inv-loop μ-loop
-loop-holds c = (omega arith, all-none _ _)
+loop-holds c = (omega arith, omega arith, all-end _ _ _ _ _ (omega arith) (omega arith) (all-none _ _))
 
 add-x : tie.Need-add-x Inv-loop μ-loop
 add-x c = omega arith
@@ -27,11 +26,14 @@ add-x c = omega arith
 shared-slice-read-x : tie.Need-shared-slice-read-x Inv-loop μ-loop
 shared-slice-read-x c = omega arith
 
-shared-slice-read-low : tie.Need-shared-slice-read-low Inv-loop μ-loop
-shared-slice-read-low c = omega arith
+shared-slice-read-all : tie.Need-shared-slice-read-all Inv-loop μ-loop
+shared-slice-read-all c = omega arith
 
-shared-slice-read-high : tie.Need-shared-slice-read-high Inv-loop μ-loop
-shared-slice-read-high c = omega arith
+shared-slice-read-all-2 : tie.Need-shared-slice-read-all-2 Inv-loop μ-loop
+shared-slice-read-all-2 c = omega arith
+
+shared-slice-read-all-3 : tie.Need-shared-slice-read-all-3 Inv-loop μ-loop
+shared-slice-read-all-3 c = omega arith
 
 add-i : tie.Need-add-i Inv-loop μ-loop
 add-i c = omega arith
@@ -40,10 +42,10 @@ loop-less : tie.Need-loop-less Inv-loop μ-loop
 loop-less c = omega arith
 
 loop-again : tie.Need-loop-again Inv-loop μ-loop
-loop-again c = (omega arith, all-more _ _ _ _ _ (c .before .before .before .before .loop .inv .1) (byte-test _ _ _ _ _))
+loop-again c = let inv = c .before .before .before .before .before .loop .inv in (omega arith, omega arith, one-more _ _ _ _ _ (inv .0) (inv .2) (byte-test _ _ _ _ _ _))
 
 returns : tie.Need-returns Inv-loop μ-loop
-returns c = all-end _ _ _ _ _ (omega arith) (omega arith) (c .before .loop .inv .1)
+returns c = let inv = c .before .loop .inv in all-end _ _ _ _ _ (omega (arith, inv .1)) (omega (arith, inv .1)) (inv .2)
 
 pub laid-in-spec : {M : Type 1} → statement M
 laid-in-spec =
@@ -54,8 +56,9 @@ laid-in-spec =
     loop-holds
     add-x
     shared-slice-read-x
-    shared-slice-read-low
-    shared-slice-read-high
+    shared-slice-read-all
+    shared-slice-read-all-2
+    shared-slice-read-all-3
     add-i
     loop-less
     loop-again

@@ -2,7 +2,8 @@
 -- Assumes nothing.
 use native.Mathlib.Omega.{arith}
 use borrow.Author.Needs.{needs}
-use Rattle.text.proofs.Numbers.{all-digits, all-zeros, both-true, ten-is, twenty-is}
+use Rattle.text.proofs.Numbers.{all-digits, all-zeros, ten-is, twenty-is}
+use Rattle.text.proofs.Tests.{both-true}
 use Rattle.text.proofs.magnitude_at.Statement.{statement}
 use Rattle.text.proofs.magnitude_at.Tie as tie
 
