@@ -1,11 +1,9 @@
 //! The directory of data set descriptors: rules 8 to 11.
 
-use crate::layout::{
-    descriptor_value, DESCRIPTOR_SIZE, DESCRIPTOR_SPANS, DESCRIPTOR_TEMPLATE, SPARE_DESCRIPTOR,
-};
+use crate::layout::{descriptor_value, DESCRIPTOR_BOUNDS, DESCRIPTOR_SIZE, SPARE_DESCRIPTOR};
 use crate::main_header::{HeaderSizes, NUM_DATA_SETS_PLACE};
 use crate::refusal::Refusal;
-use crate::text::{first_different, first_fault, long, whole};
+use crate::text::{first_different, first_outside, long, whole};
 
 /// The most entries, held together.
 pub const ENTRIES: usize = 128;
@@ -121,9 +119,9 @@ pub(crate) fn check_descriptors(
 fn read_descriptors(product: &[u8], sizes: &HeaderSizes, entries: &mut Entries) -> Result<(), Refusal> {
     entries.count = sizes.descriptors;
     let mut too_large = None;
-    for entry in 0..sizes.descriptors {
+    let (descriptors, _) = product[sizes.lines_end..sizes.headers_end].as_chunks();
+    for (entry, descriptor) in descriptors.iter().enumerate() {
         let place = sizes.lines_end + entry * DESCRIPTOR_SIZE;
-        let descriptor = &product[place..place + DESCRIPTOR_SIZE];
         if let Some(fault) = first_fault_in_descriptor(descriptor) {
             return Err(Refusal::of_entry(8, (place + fault) as u64, entry));
         }
@@ -139,11 +137,15 @@ fn read_descriptors(product: &[u8], sizes: &HeaderSizes, entries: &mut Entries) 
 }
 
 /// The first byte of a DSD that is not as laid out; a blank first byte asks for the spare layout.
-fn first_fault_in_descriptor(descriptor: &[u8]) -> Option<usize> {
+fn first_fault_in_descriptor(descriptor: &[u8; DESCRIPTOR_SIZE]) -> Option<usize> {
     if descriptor[0] == b' ' {
-        first_different(descriptor, &SPARE_DESCRIPTOR)
+        return first_different(descriptor, &SPARE_DESCRIPTOR);
+    }
+    let fault = first_outside(descriptor, &DESCRIPTOR_BOUNDS);
+    if matches!(descriptor[DS_TYPE], b'M' | b'A' | b'G' | b'R') {
+        fault
     } else {
-        first_fault(descriptor, &DESCRIPTOR_TEMPLATE, &DESCRIPTOR_SPANS)
+        Some(fault.map_or(DS_TYPE, |fault| fault.min(DS_TYPE)))
     }
 }
 

@@ -24,8 +24,8 @@ impl<'a> Judged<'a> {
     /// Looks at rules 1 to 16; the bytes read are the headers and the states, none of the rest.
     #[inline]
     pub fn of(product: &'a [u8]) -> Result<Judged<'a>, Refusal> {
-        check_length(product.len())?;
-        let sizes = check_main_header(product)?;
+        let header = main_header_of(product)?;
+        let sizes = check_main_header(header, product.len())?;
         check_sph_lines(product, sizes.lines_end)?;
         let mut entries = Entries::NONE;
         check_descriptors(product, &sizes, &mut entries)?;
@@ -65,13 +65,12 @@ impl<'a> Judged<'a> {
     }
 }
 
-/// Rules 1 and 2.
-fn check_length(length: usize) -> Result<(), Refusal> {
-    if length < MAIN_HEADER_SIZE {
-        return Err(Refusal::without_entry(1, length as u64));
-    }
-    if length > LONGEST_PRODUCT {
+/// The main header of a product neither too short nor too long: rules 1 and 2.
+fn main_header_of(product: &[u8]) -> Result<&[u8; MAIN_HEADER_SIZE], Refusal> {
+    let short = Refusal::without_entry(1, product.len() as u64);
+    let header = product.first_chunk().ok_or(short)?;
+    if product.len() > LONGEST_PRODUCT {
         return Err(Refusal::without_entry(2, 0));
     }
-    Ok(())
+    Ok(header)
 }
