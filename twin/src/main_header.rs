@@ -23,7 +23,6 @@ pub(crate) struct HeaderSizes {
     pub lines_end: usize,
     /// The first byte after both headers.
     pub headers_end: usize,
-    pub descriptors: usize,
     pub data_sets: i64,
 }
 
@@ -62,7 +61,6 @@ fn check_sizes(header: &[u8], length: usize) -> Result<HeaderSizes, Refusal> {
     Ok(HeaderSizes {
         lines_end: headers_end - descriptors as usize * DESCRIPTOR_SIZE,
         headers_end,
-        descriptors: descriptors as usize,
         data_sets: whole(header, NUM_DATA_SETS, 10),
     })
 }
