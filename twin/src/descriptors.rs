@@ -1,11 +1,9 @@
 //! The directory of data set descriptors: rules 8 to 11.
 
-use crate::layout::{
-    descriptor_value, DESCRIPTOR_SIZE, DESCRIPTOR_SPANS, DESCRIPTOR_TEMPLATE, SPARE_DESCRIPTOR,
-};
+use crate::layout::{descriptor_value, DESCRIPTOR_BOUNDS, DESCRIPTOR_SIZE, SPARE_DESCRIPTOR};
 use crate::main_header::{HeaderSizes, NUM_DATA_SETS_PLACE};
 use crate::refusal::Refusal;
-use crate::text::{first_different, first_fault, long, whole};
+use crate::text::{first_different, first_outside, long, whole};
 
 /// The most entries, held together.
 pub const ENTRIES: usize = 128;
@@ -83,67 +81,57 @@ impl Entry {
     }
 }
 
-/// The entries of the directory, in order.
-pub(crate) struct Entries {
-    list: [Entry; ENTRIES],
-    count: usize,
-}
-
-impl Entries {
-    pub const NONE: Entries = Entries { list: [Entry::NONE; ENTRIES], count: 0 };
-
-    pub fn all(&self) -> &[Entry] {
-        &self.list[..self.count]
-    }
-}
-
-/// Rules 8 to 11, filling the entries.
-pub(crate) fn check_descriptors(
-    product: &[u8],
-    sizes: &HeaderSizes,
-    entries: &mut Entries,
-) -> Result<(), Refusal> {
-    read_descriptors(product, sizes, entries)?;
-    for (entry, values) in entries.all().iter().enumerate() {
-        let place = sizes.lines_end + entry * DESCRIPTOR_SIZE;
-        if !numbers_hold(values, &product[place..place + DESCRIPTOR_SIZE]) {
+/// Rules 8 to 11; answers the entries of the directory, in order.
+pub(crate) fn check_descriptors(product: &[u8], sizes: &HeaderSizes) -> Result<Vec<Entry>, Refusal> {
+    let (descriptors, _) = product[sizes.lines_end..sizes.headers_end].as_chunks();
+    let entries = read_descriptors(descriptors, sizes.lines_end)?;
+    let mut sets = 0;
+    for (entry, (values, descriptor)) in entries.iter().zip(descriptors).enumerate() {
+        if !numbers_hold(values, descriptor) {
+            let place = sizes.lines_end + entry * DESCRIPTOR_SIZE;
             return Err(Refusal::of_entry(10, place as u64, entry));
         }
+        sets += i64::from(values.has_set());
     }
-    let sets = entries.all().iter().filter(|entry| entry.has_set()).count();
-    if sizes.data_sets != sets as i64 {
+    if sizes.data_sets != sets {
         return Err(Refusal::without_entry(11, NUM_DATA_SETS_PLACE));
     }
-    Ok(())
+    Ok(entries)
 }
 
 /// Rules 8 and 9 in one pass: a rule 9 refusal waits until rule 8 holds for every entry.
-fn read_descriptors(product: &[u8], sizes: &HeaderSizes, entries: &mut Entries) -> Result<(), Refusal> {
-    entries.count = sizes.descriptors;
+fn read_descriptors(
+    descriptors: &[[u8; DESCRIPTOR_SIZE]],
+    start: usize,
+) -> Result<Vec<Entry>, Refusal> {
+    let mut entries = vec![Entry::NONE; descriptors.len()];
     let mut too_large = None;
-    for entry in 0..sizes.descriptors {
-        let place = sizes.lines_end + entry * DESCRIPTOR_SIZE;
-        let descriptor = &product[place..place + DESCRIPTOR_SIZE];
+    for (entry, (values, descriptor)) in entries.iter_mut().zip(descriptors).enumerate() {
+        let place = start + entry * DESCRIPTOR_SIZE;
         if let Some(fault) = first_fault_in_descriptor(descriptor) {
             return Err(Refusal::of_entry(8, (place + fault) as u64, entry));
         }
         match read_entry(descriptor) {
-            Ok(values) => entries.list[entry] = values,
+            Ok(read) => *values = read,
             Err(sign) if too_large.is_none() => {
                 too_large = Some(Refusal::of_entry(9, (place + sign) as u64, entry));
             }
             Err(_) => {}
         }
     }
-    too_large.map_or(Ok(()), Err)
+    too_large.map_or(Ok(entries), Err)
 }
 
 /// The first byte of a DSD that is not as laid out; a blank first byte asks for the spare layout.
-fn first_fault_in_descriptor(descriptor: &[u8]) -> Option<usize> {
+fn first_fault_in_descriptor(descriptor: &[u8; DESCRIPTOR_SIZE]) -> Option<usize> {
     if descriptor[0] == b' ' {
-        first_different(descriptor, &SPARE_DESCRIPTOR)
+        return first_different(descriptor, &SPARE_DESCRIPTOR);
+    }
+    let fault = first_outside(descriptor, &DESCRIPTOR_BOUNDS);
+    if matches!(descriptor[DS_TYPE], b'M' | b'A' | b'G' | b'R') {
+        fault
     } else {
-        first_fault(descriptor, &DESCRIPTOR_TEMPLATE, &DESCRIPTOR_SPANS)
+        Some(fault.map_or(DS_TYPE, |fault| fault.min(DS_TYPE)))
     }
 }
 

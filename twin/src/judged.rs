@@ -1,6 +1,6 @@
 //! A judged product: rules 1 to 16 in order, and what the other calls need of a product they hold for.
 
-use crate::descriptors::{check_descriptors, Entries, Entry};
+use crate::descriptors::{check_descriptors, Entry};
 use crate::layout::MAIN_HEADER_SIZE;
 use crate::main_header::check_main_header;
 use crate::refusal::Refusal;
@@ -16,7 +16,7 @@ pub(crate) struct Judged<'a> {
     pub product: &'a [u8],
     pub lines_end: usize,
     headers_end: usize,
-    entries: Entries,
+    entries: Vec<Entry>,
     states: usize,
 }
 
@@ -24,20 +24,19 @@ impl<'a> Judged<'a> {
     /// Looks at rules 1 to 16; the bytes read are the headers and the states, none of the rest.
     #[inline]
     pub fn of(product: &'a [u8]) -> Result<Judged<'a>, Refusal> {
-        check_length(product.len())?;
-        let sizes = check_main_header(product)?;
+        let header = main_header_of(product)?;
+        let sizes = check_main_header(header, product.len())?;
         check_sph_lines(product, sizes.lines_end)?;
-        let mut entries = Entries::NONE;
-        check_descriptors(product, &sizes, &mut entries)?;
-        check_sets(entries.all(), sizes.headers_end, product.len())?;
+        let entries = check_descriptors(product, &sizes)?;
+        check_sets(&entries, sizes.headers_end, product.len())?;
         let (lines_end, headers_end) = (sizes.lines_end, sizes.headers_end);
         let descriptors = &product[lines_end..headers_end];
-        let states = check_states(Listed { product, descriptors, entries: entries.all() })?;
+        let states = check_states(Listed { product, descriptors, entries: &entries })?;
         Ok(Judged { product, lines_end, headers_end, entries, states })
     }
 
     pub fn entries(&self) -> &[Entry] {
-        self.entries.all()
+        &self.entries
     }
 
     /// The DSD of an entry.
@@ -47,7 +46,7 @@ impl<'a> Judged<'a> {
 
     fn listed(&self) -> Listed<'_> {
         let descriptors = &self.product[self.lines_end..self.headers_end];
-        Listed { product: self.product, descriptors, entries: self.entries.all() }
+        Listed { product: self.product, descriptors, entries: &self.entries }
     }
 
     /// The place and length of a record: rules 17 and 18.
@@ -65,13 +64,12 @@ impl<'a> Judged<'a> {
     }
 }
 
-/// Rules 1 and 2.
-fn check_length(length: usize) -> Result<(), Refusal> {
-    if length < MAIN_HEADER_SIZE {
-        return Err(Refusal::without_entry(1, length as u64));
-    }
-    if length > LONGEST_PRODUCT {
+/// The main header of a product neither too short nor too long: rules 1 and 2.
+fn main_header_of(product: &[u8]) -> Result<&[u8; MAIN_HEADER_SIZE], Refusal> {
+    let short = Refusal::without_entry(1, product.len() as u64);
+    let header = product.first_chunk().ok_or(short)?;
+    if product.len() > LONGEST_PRODUCT {
         return Err(Refusal::without_entry(2, 0));
     }
-    Ok(())
+    Ok(header)
 }

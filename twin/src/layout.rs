@@ -1,5 +1,5 @@
 //! The header layouts of document 01: the forty-one lines of the main header and the lines of one DSD,
-//! and, worked out from them while compiling, a template of the fixed bytes and a table of the free spans.
+//! and, worked out from them while compiling, the bounds of every byte.
 
 /// Bytes of the main product header.
 pub(crate) const MAIN_HEADER_SIZE: usize = 1247;
@@ -28,23 +28,12 @@ pub(crate) enum Kind {
 /// One line: its starting byte, keyword, kind and unit.
 pub(crate) struct Line(usize, &'static str, Kind, &'static str);
 
-/// The bytes allowed in a free span.
-#[derive(Clone, Copy, PartialEq)]
-pub(crate) enum Allowed {
-    Text,
-    Flag,
-    SetType,
-    /// A sign, then digits.
-    Signed,
-    Digits,
-}
-
-/// A run of bytes that the layout leaves free within bounds.
-#[derive(Clone, Copy)]
-pub(crate) struct Span {
-    pub start: usize,
-    pub length: usize,
-    pub allowed: Allowed,
+/// For each byte of a header the lowest allowed, how far the highest lies above it, and one between them
+/// that is not allowed; 0, which is allowed nowhere, where all between them are.
+pub(crate) struct Bounds<const SIZE: usize> {
+    pub lowest: [u8; SIZE],
+    pub width: [u8; SIZE],
+    pub left_out: [u8; SIZE],
 }
 
 use Kind::{Decimal, Flag, Quoted, SetType, Single, Spare, Whole};
@@ -104,15 +93,10 @@ const DESCRIPTOR_LINES: [Line; 8] = [
     Line(247, "", Spare(32), ""),
 ];
 
-/// The fixed bytes of the main header; blanks stand in the free spans.
-pub(crate) static MAIN_HEADER_TEMPLATE: [u8; MAIN_HEADER_SIZE] = template(&MAIN_HEADER_LINES);
-/// The free spans of the main header: one for each of the 34 values, and one more for the digits behind
-/// the point of each of seven.
-pub(crate) static MAIN_HEADER_SPANS: [Span; 41] = spans(&MAIN_HEADER_LINES);
-/// The fixed bytes of a named DSD.
-pub(crate) static DESCRIPTOR_TEMPLATE: [u8; DESCRIPTOR_SIZE] = template(&DESCRIPTOR_LINES);
-/// The free spans of a named DSD.
-pub(crate) static DESCRIPTOR_SPANS: [Span; 7] = spans(&DESCRIPTOR_LINES);
+/// What may stand in the main header.
+pub(crate) static MAIN_HEADER_BOUNDS: Bounds<MAIN_HEADER_SIZE> = bounds(&MAIN_HEADER_LINES);
+/// What may stand in a named DSD; its type has more left out between A and R.
+pub(crate) static DESCRIPTOR_BOUNDS: Bounds<DESCRIPTOR_SIZE> = bounds(&DESCRIPTOR_LINES);
 /// A spare DSD: blanks, then byte 10.
 pub(crate) static SPARE_DESCRIPTOR: [u8; DESCRIPTOR_SIZE] = {
     let mut spare = [b' '; DESCRIPTOR_SIZE];
@@ -199,14 +183,12 @@ const fn write_line(mut target: [u8; 2048], line: &Line) -> ([u8; 2048], usize) 
             target = copy(target, start - 1, b"=");
         }
     }
-    if let Decimal(before, _) = line.2 {
-        target = copy(target, start + 1 + before, b".");
-    }
     target = copy(target, end, line.3.as_bytes());
     end += line.3.len();
     (copy(target, end, b"\n"), end + 1)
 }
 
+/// The fixed bytes of a header; blanks stand in its values.
 const fn template<const SIZE: usize>(lines: &[Line]) -> [u8; SIZE] {
     let mut written = ([b' '; 2048], 0);
     let mut index = 0;
@@ -225,31 +207,33 @@ const fn template<const SIZE: usize>(lines: &[Line]) -> [u8; SIZE] {
     exact
 }
 
-const fn spans<const COUNT: usize>(lines: &[Line]) -> [Span; COUNT] {
-    let mut table = [Span { start: 0, length: 0, allowed: Allowed::Text }; COUNT];
-    let mut filled = 0;
+/// The lowest and the highest byte allowed at a place of a value, and the one between them that is not.
+const fn bounds_in_value(kind: Kind, at: usize) -> (u8, u8, u8) {
+    match kind {
+        Spare(_) => (b' ', b' ', 0),
+        Quoted(_) | Single => (b' ', b'~', b'"'),
+        Flag => (b'0', b'1', 0),
+        SetType => (b'A', b'R', 0),
+        Whole(_) | Decimal(..) if at == 0 => (b'+', b'-', b','),
+        Decimal(before, _) if at == before + 1 => (b'.', b'.', 0),
+        Whole(_) | Decimal(..) => (b'0', b'9', 0),
+    }
+}
+
+const fn bounds<const SIZE: usize>(lines: &[Line]) -> Bounds<SIZE> {
+    let mut table = Bounds { lowest: template(lines), width: [0; SIZE], left_out: [0; SIZE] };
     let mut index = 0;
     while index < lines.len() {
         let start = value_start(&lines[index]);
-        let first = match lines[index].2 {
-            Spare(_) => None,
-            Quoted(length) => Some(Span { start, length, allowed: Allowed::Text }),
-            Single => Some(Span { start, length: 1, allowed: Allowed::Text }),
-            Flag => Some(Span { start, length: 1, allowed: Allowed::Flag }),
-            SetType => Some(Span { start, length: 1, allowed: Allowed::SetType }),
-            Whole(digits) => Some(Span { start, length: 1 + digits, allowed: Allowed::Signed }),
-            Decimal(before, _) => Some(Span { start, length: 1 + before, allowed: Allowed::Signed }),
-        };
-        if let Some(span) = first {
-            table[filled] = span;
-            filled += 1;
-        }
-        if let Decimal(before, length) = lines[index].2 {
-            table[filled] = Span { start: start + before + 2, length, allowed: Allowed::Digits };
-            filled += 1;
+        let mut at = 0;
+        while at < value_length(&lines[index]) {
+            let (lowest, highest, left_out) = bounds_in_value(lines[index].2, at);
+            table.lowest[start + at] = lowest;
+            table.width[start + at] = highest - lowest;
+            table.left_out[start + at] = left_out;
+            at += 1;
         }
         index += 1;
     }
-    assert!(filled == COUNT, "the table of spans has another size");
     table
 }

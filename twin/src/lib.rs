@@ -48,7 +48,8 @@ pub fn judge(product: &[u8]) -> Verdict {
 
 /// The directory of an accepted product.
 pub fn directory(product: &[u8]) -> Result<Directory, Refusal> {
-    Judged::of(product).map(|judged| Directory::read(&judged))
+    let judged = Judged::of(product)?;
+    Ok(Directory::read(&judged))
 }
 
 /// The thirty-four values of the main header of an accepted product.

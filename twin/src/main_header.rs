@@ -1,10 +1,8 @@
 //! The main product header: rules 3 to 6, and its thirty-four values.
 
-use crate::layout::{
-    header_value, DESCRIPTOR_SIZE, MAIN_HEADER_SIZE, MAIN_HEADER_SPANS, MAIN_HEADER_TEMPLATE,
-};
+use crate::layout::{header_value, DESCRIPTOR_SIZE, MAIN_HEADER_BOUNDS, MAIN_HEADER_SIZE};
 use crate::refusal::Refusal;
-use crate::text::{decimal, first_fault, long, quoted, whole};
+use crate::text::{decimal, first_outside, long, quoted, whole};
 
 const TOT_SIZE: usize = header_value("TOT_SIZE");
 const SPH_SIZE: usize = header_value("SPH_SIZE");
@@ -25,22 +23,23 @@ pub(crate) struct HeaderSizes {
     pub lines_end: usize,
     /// The first byte after both headers.
     pub headers_end: usize,
-    pub descriptors: usize,
     pub data_sets: i64,
 }
 
-/// Rules 3 to 6.
-pub(crate) fn check_main_header(product: &[u8]) -> Result<HeaderSizes, Refusal> {
-    let header = &product[..MAIN_HEADER_SIZE];
-    if let Some(fault) = first_fault(header, &MAIN_HEADER_TEMPLATE, &MAIN_HEADER_SPANS) {
+/// Rules 3 to 6, for a product of this length.
+pub(crate) fn check_main_header(
+    header: &[u8; MAIN_HEADER_SIZE],
+    length: usize,
+) -> Result<HeaderSizes, Refusal> {
+    if let Some(fault) = first_outside(header, &MAIN_HEADER_BOUNDS) {
         return Err(Refusal::without_entry(3, fault as u64));
     }
     let total = long(header, TOT_SIZE);
     let total = total.ok_or(Refusal::without_entry(4, TOT_SIZE as u64))?;
-    if total != product.len() as i64 {
+    if total != length as i64 {
         return Err(Refusal::without_entry(5, TOT_SIZE as u64));
     }
-    check_sizes(header, product.len())
+    check_sizes(header, length)
 }
 
 /// Rule 6.
@@ -62,7 +61,6 @@ fn check_sizes(header: &[u8], length: usize) -> Result<HeaderSizes, Refusal> {
     Ok(HeaderSizes {
         lines_end: headers_end - descriptors as usize * DESCRIPTOR_SIZE,
         headers_end,
-        descriptors: descriptors as usize,
         data_sets: whole(header, NUM_DATA_SETS, 10),
     })
 }

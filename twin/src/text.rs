@@ -1,6 +1,6 @@
 //! Header text: finding the first byte that is not as laid out, and reading signed digits.
 
-use crate::layout::{Allowed, Span};
+use crate::layout::Bounds;
 
 /// The bytes of q and c: 32 to 126, never 34.
 #[inline]
@@ -14,23 +14,6 @@ const BLOCK: usize = 16;
 #[inline]
 fn all_allowed(bytes: &[u8], allowed: impl Fn(u8) -> bool) -> bool {
     bytes.iter().fold(true, |good, &byte| good & allowed(byte))
-}
-
-/// The first byte that is not allowed. Whole blocks are looked at before any byte is searched for, the
-/// last one ending with the run, so that a good run costs no branch for each byte.
-#[inline]
-fn first_outside(bytes: &[u8], allowed: impl Fn(u8) -> bool + Copy) -> Option<usize> {
-    let good = match bytes.last_chunk::<BLOCK>() {
-        Some(last) => {
-            let (blocks, _) = bytes.as_chunks::<BLOCK>();
-            blocks.iter().all(|block| all_allowed(block, allowed)) && all_allowed(last, allowed)
-        }
-        None => all_allowed(bytes, allowed),
-    };
-    if good {
-        return None;
-    }
-    bytes.iter().position(|&byte| !allowed(byte))
 }
 
 /// How many bytes at the start are allowed.
@@ -51,37 +34,23 @@ pub(crate) fn first_different(bytes: &[u8], fixed: &[u8]) -> Option<usize> {
     }
 }
 
-/// The first byte of a free span that is not allowed there.
+/// The first byte of a header that is outside its bounds. All bytes are looked at before one is searched
+/// for, so that a good header costs no branch for each byte.
 #[inline]
-fn first_fault_in_span(bytes: &[u8], allowed: Allowed) -> Option<usize> {
-    match allowed {
-        Allowed::Text => first_outside(bytes, is_text),
-        Allowed::Digits => first_outside(bytes, |byte| byte.is_ascii_digit()),
-        Allowed::Flag => first_outside(bytes, |byte| matches!(byte, b'0' | b'1')),
-        Allowed::SetType => first_outside(bytes, |byte| matches!(byte, b'M' | b'A' | b'G' | b'R')),
-        Allowed::Signed => {
-            if !matches!(bytes[0], b'+' | b'-') {
-                return Some(0);
-            }
-            first_outside(&bytes[1..], |byte| byte.is_ascii_digit()).map(|at| at + 1)
-        }
+pub(crate) fn first_outside<const SIZE: usize>(
+    header: &[u8; SIZE],
+    bounds: &Bounds<SIZE>,
+) -> Option<usize> {
+    let excess = |at: usize| {
+        let above = header[at].wrapping_sub(bounds.lowest[at]);
+        above.saturating_sub(bounds.width[at]) | u8::from(header[at] == bounds.left_out[at])
+    };
+    let together = (0..SIZE).fold(0, |together, at| together | excess(at));
+    if together == 0 {
+        None
+    } else {
+        (0..SIZE).find(|&at| excess(at) != 0)
     }
-}
-
-/// The first byte of a header that is not as laid out.
-#[inline]
-pub(crate) fn first_fault(header: &[u8], template: &[u8], spans: &[Span]) -> Option<usize> {
-    let mut at = 0;
-    for span in spans {
-        if let Some(fault) = first_different(&header[at..span.start], &template[at..span.start]) {
-            return Some(at + fault);
-        }
-        at = span.start + span.length;
-        if let Some(fault) = first_fault_in_span(&header[span.start..at], span.allowed) {
-            return Some(span.start + fault);
-        }
-    }
-    first_different(&header[at..], &template[at..]).map(|fault| at + fault)
 }
 
 /// The magnitude that digits write; at most nineteen of them.
