@@ -256,8 +256,8 @@ fn follows(offset: u64, size: u64, end: u64, length: u64) -> bool
     size <= length - end
 }
 
-// The sets stand in the order of the entries, the first at the headers' end, each other where the one before ends, and the last ends with the product.
-// Most products are so, and then rules 12 to 14 hold; a product that is not so may still keep them.
+// The non-empty sets stand in the order of the entries, the first at the headers' end, each other where the one before ends, and the last ends with the
+// product. Most products are so, and then rules 12 to 14 hold in one pass; where it answers false they may still hold, and the searches tell.
 pub fn are_joined<'a>(
     offsets: &'a [u64; 128],
     sizes: &'a [u64; 128],
