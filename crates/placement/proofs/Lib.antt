@@ -1,2 +1,3 @@
 mod Sets
 mod Cover
+mod Joined

@@ -15,7 +15,7 @@ use Rattle.layout.specs.Answer.{Answer, accepted, refused, need}
 use Rattle.layout.specs.Search.{first, some}
 use Rattle.layout.specs.Entries.{Entry, at, shares}
 use Rattle.layout.specs.Rules.{setInside, rule12At, sharesAt, rule13At}
-use Rattle.layout.proofs.Laws.{lt-or-le, some-same, some-step, some-end, first-same, first-step}
+use Rattle.layout.proofs.Laws.{lt-or-le, some-same, some-step, first-same, first-step}
 use Rattle.placement.specs.Sets.{isInside, overlaps, overlapsAt, largest, Between, Clear, rule12By, rule13By, Held, Outside, Overlapping}
 
 -- ---- one set, and two, by their numbers
@@ -177,9 +177,9 @@ module _ (offsets sizes : List ℕ) where
 
   -- where low and high hold all lower sets, a set that is clear of them shares no byte with a lower one; wider bounds hold it too
   module _ (i low high : ℕ) (lower : Lower offsets sizes i low high) where
-    pub none-shares : Clear low high (getD offsets i 0) (getD sizes i 0) → some (overlapsAt offsets sizes i) 0 i ≡ some (overlapsAt offsets sizes i) i (i - i)
+    pub none-shares : Clear low high (getD offsets i 0) (getD sizes i 0) → some (overlapsAt offsets sizes i) 0 i ≡ false
     unfolding Clear overlapsAt
-    none-shares h = some-false (overlapsAt offsets sizes i) 0 i (λ j l u. h _ _ (lower .each j (omega arith))) ∙ sym (some-end (overlapsAt offsets sizes i) i)
+    none-shares h = some-false (overlapsAt offsets sizes i) 0 i (λ j l u. h _ _ (lower .each j (omega arith)))
 
     pub one-more : (l h : ℕ) → (l ≤ low) × (0 < getD sizes i 0 → l ≤ getD offsets i 0) → (high ≤ h) × (0 < getD sizes i 0 → h < largest → getD offsets i 0 + getD sizes i 0 ≤ h)
         → Lower offsets sizes (i + 1) l h

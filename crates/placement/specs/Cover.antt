@@ -1,4 +1,5 @@
--- Rule 14 over arrays of offsets and sizes: which bytes the sets hold, and what the search answers of any directory that the arrays hold.
+-- Rule 14 over arrays of offsets and sizes: which bytes the sets hold, and what the search answers of any directory that the arrays hold; and rules 12
+-- to 14 where none of the three searches finds anything.
 -- Assumes nothing.
 use Prim.Native.Nat.{ℕ, _+_, _-_, _≤_, _<_}
 use mathlib.Core.Bool.{Bool, false, _&&_}
@@ -10,7 +11,7 @@ use Rattle.layout.specs.Answer.{Answer, none, need}
 use Rattle.layout.specs.Search.{first, some}
 use Rattle.layout.specs.Entries.{Entry}
 use Rattle.layout.specs.Rules.{rule14At}
-use Rattle.placement.specs.Sets.{Held}
+use Rattle.placement.specs.Sets.{Held, Outside, Overlapping}
 
 -- a set holds the byte p
 unfoldable pub covers : ℕ → ℕ → ℕ → Bool
@@ -37,3 +38,9 @@ pub record Holding (offsets sizes : List ℕ) (n p r : ℕ) : Type 0 where
 pub record Uncovered (offsets sizes : List ℕ) (entries h n r : ℕ) : Type 0 where
   pub within : r ≤ n
   pub answer : (ds : List Entry) → Held ds offsets sizes → length ds ≡ entries → first (rule14At ds) h (n - h) ≡ need (eqb r n) 14 r none
+
+-- no entry and no byte is one that rules 12 to 14 refuse
+pub record NoneFound (offsets sizes : List ℕ) (entries h n : ℕ) : Type 0 where
+  pub inside : Outside offsets sizes entries h n entries
+  pub apart : Overlapping offsets sizes entries entries
+  pub covered : Uncovered offsets sizes entries h n n

@@ -5,7 +5,7 @@ ghost use mathlib.Core.Bool.{true, not};
 ghost use mathlib.Core.Path.{_≡_};
 ghost use Rattle.layout.specs.Search.{find};
 ghost use Rattle.placement.specs.Sets.{isInside, overlaps, largest, Clear, Outside, Overlapping};
-ghost use Rattle.placement.specs.Cover.{covers, coversAt, Holding, Uncovered};
+ghost use Rattle.placement.specs.Cover.{covers, coversAt, Holding, Uncovered, NoneFound};
 
 // A non-empty set starts inside the headers or ends past the product.
 fn is_outside(offset: u64, size: u64, headers_end: u64, length: u64) -> bool
@@ -240,4 +240,46 @@ pub fn first_uncovered<'a>(
         from = one_before(i);
     }
     length
+}
+
+// A set is empty, or starts at `end` and ends inside the product.
+fn follows(offset: u64, size: u64, end: u64, length: u64) -> bool
+    requires { ⌜ end ≤ length ⌝ }
+    ensures { λ r. ⌜ (r ≡ true → (0 < size → offset ≡ end) × (end + size ≤ length)) ⌝ }
+{
+    if size == 0 {
+        return true;
+    }
+    if offset != end {
+        return false;
+    }
+    size <= length - end
+}
+
+// The non-empty sets stand in the order of the entries, the first at the headers' end, each other where the one before ends, and the last ends with the
+// product. Most products are so, and then rules 12 to 14 hold in one pass; where it answers false they may still hold, and the searches tell.
+pub fn are_joined<'a>(
+    offsets: &'a [u64; 128],
+    sizes: &'a [u64; 128],
+    entries: usize,
+    headers_end: u64,
+    length: u64,
+) -> bool
+    requires { ⌜ entries ≤ 128 ⌝ }
+    ensures { λ r. ⌜ (r ≡ true → NoneFound (now (offsets .entry)) (now (sizes .entry)) entries «headers_end» length) ⌝ }
+{
+    if length < headers_end {
+        return false;
+    }
+    let mut end = headers_end;
+    let mut i = 0;
+    while i < entries {
+        let size = sizes[i];
+        if !follows(offsets[i], size, end, length) {
+            return false;
+        }
+        end += size;
+        i += 1;
+    }
+    end == length
 }

@@ -1,6 +1,6 @@
 -- `directory::check_places` meets its contract.
 -- Assumes nothing.
-use mathlib.Core.Path.{sym, _∙_}
+use mathlib.Core.Path.{refl, sym, _∙_}
 use native.Mathlib.Omega.{arith}
 use borrow.Author.Tests.{eq-eqb, ne-eqb}
 use Rattle.layout.specs.Answers.{verdictIs}
@@ -8,6 +8,16 @@ use Rattle.directory.specs.Checks.{placeRules}
 use borrow.Author.Needs.{needs}
 use Rattle.directory.proofs.check_places.Statement.{statement}
 use Rattle.directory.proofs.check_places.Tie as tie
+
+are-joined-requires : tie.Need-are-joined-requires
+are-joined-requires c κs = search needs
+
+returns : tie.Need-returns
+unfolding verdictIs placeRules
+returns c =
+    let none-found = c .before .are-joined .ensures (c .if1 .taken) in
+    let args = c .before .before .args in
+    record { answer = λ ds held e. sym (rw (e, none-found .inside .answer ds held e, eq-eqb (args .entries) (args .entries) refl, none-found .apart .answer ds held e, eq-eqb (args .entries) (args .entries) refl, none-found .covered .answer ds held e, eq-eqb (args .length) (args .length) refl)) }
 
 first-outside-requires : tie.Need-first-outside-requires
 first-outside-requires c κs = search needs
@@ -21,11 +31,11 @@ element-copy-out-refuse c = omega (arith, c .before .first-outside .ensures .wit
 refuse-requires : tie.Need-refuse-requires
 refuse-requires c κs = search needs
 
-returns : tie.Need-returns
+returns-2 : tie.Need-returns-2
 unfolding placeRules
-returns c =
+returns-2 c =
     let first-outside = c .before .before .before .first-outside in
-    record { answer = λ ds held e. c .refuse .ensures ∙ sym (rw (e, first-outside .ensures .answer ds held e, ne-eqb (first-outside .result) (c .before .before .before .before .args .entries) (c .before .before .if1 .taken))) }
+    record { answer = λ ds held e. c .refuse .ensures ∙ sym (rw (e, first-outside .ensures .answer ds held e, ne-eqb (first-outside .result) (c .before .before .before .before .before .before .args .entries) (c .before .before .if2 .taken))) }
 
 first-overlapping-requires : tie.Need-first-overlapping-requires
 first-overlapping-requires c κs = search needs
@@ -39,13 +49,13 @@ element-copy-out-refuse-2 c = omega (arith, c .before .first-overlapping .ensure
 refuse-requires-2 : tie.Need-refuse-requires-2
 refuse-requires-2 c κs = search needs
 
-returns-2 : tie.Need-returns-2
+returns-3 : tie.Need-returns-3
 unfolding placeRules
-returns-2 c =
+returns-3 c =
     let first-outside = c .before .before .before .before .before .first-outside in
-    let args = c .before .before .before .before .before .before .args in
+    let args = c .before .before .before .before .before .before .before .before .args in
     let first-overlapping = c .before .before .before .first-overlapping in
-    record { answer = λ ds held e. c .refuse2 .ensures ∙ sym (rw (e, first-outside .ensures .answer ds held e, eq-eqb (first-outside .result) (args .entries) (c .before .before .before .before .if1 .left), first-overlapping .ensures .answer ds held e, ne-eqb (first-overlapping .result) (args .entries) (c .before .before .if2 .taken))) }
+    record { answer = λ ds held e. c .refuse2 .ensures ∙ sym (rw (e, first-outside .ensures .answer ds held e, eq-eqb (first-outside .result) (args .entries) (c .before .before .before .before .if2 .left), first-overlapping .ensures .answer ds held e, ne-eqb (first-overlapping .result) (args .entries) (c .before .before .if3 .taken))) }
 
 first-uncovered-requires : tie.Need-first-uncovered-requires
 first-uncovered-requires c κs = search needs
@@ -53,37 +63,39 @@ first-uncovered-requires c κs = search needs
 refuse-requires-3 : tie.Need-refuse-requires-3
 refuse-requires-3 c κs = search needs
 
-returns-3 : tie.Need-returns-3
-unfolding placeRules
-returns-3 c =
-    let first-outside = c .before .before .before .before .before .before .first-outside in
-    let args = c .before .before .before .before .before .before .before .args in
-    let first-overlapping = c .before .before .before .before .first-overlapping in
-    record { answer = λ ds held e. c .refuse3 .ensures ∙ sym (rw (e, first-outside .ensures .answer ds held e, eq-eqb (first-outside .result) (args .entries) (c .before .before .before .before .before .if1 .left), first-overlapping .ensures .answer ds held e, eq-eqb (first-overlapping .result) (args .entries) (c .before .before .before .if2 .left), c .before .before .first-uncovered .ensures .answer ds held e, ne-eqb (c .before .before .first-uncovered .result) (args .length) (c .before .if3 .taken))) }
-
 returns-4 : tie.Need-returns-4
-unfolding verdictIs placeRules
+unfolding placeRules
 returns-4 c =
+    let first-outside = c .before .before .before .before .before .before .first-outside in
+    let args = c .before .before .before .before .before .before .before .before .before .args in
+    let first-overlapping = c .before .before .before .before .first-overlapping in
+    record { answer = λ ds held e. c .refuse3 .ensures ∙ sym (rw (e, first-outside .ensures .answer ds held e, eq-eqb (first-outside .result) (args .entries) (c .before .before .before .before .before .if2 .left), first-overlapping .ensures .answer ds held e, eq-eqb (first-overlapping .result) (args .entries) (c .before .before .before .if3 .left), c .before .before .first-uncovered .ensures .answer ds held e, ne-eqb (c .before .before .first-uncovered .result) (args .length) (c .before .if4 .taken))) }
+
+returns-5 : tie.Need-returns-5
+unfolding verdictIs placeRules
+returns-5 c =
     let first-outside = c .before .before .before .before .before .first-outside in
-    let args = c .before .before .before .before .before .before .args in
+    let args = c .before .before .before .before .before .before .before .before .args in
     let first-overlapping = c .before .before .before .first-overlapping in
-    record { answer = λ ds held e. sym (rw (e, first-outside .ensures .answer ds held e, eq-eqb (first-outside .result) (args .entries) (c .before .before .before .before .if1 .left), first-overlapping .ensures .answer ds held e, eq-eqb (first-overlapping .result) (args .entries) (c .before .before .if2 .left), c .before .first-uncovered .ensures .answer ds held e, eq-eqb (c .before .first-uncovered .result) (args .length) (c .if3 .left))) }
+    record { answer = λ ds held e. sym (rw (e, first-outside .ensures .answer ds held e, eq-eqb (first-outside .result) (args .entries) (c .before .before .before .before .if2 .left), first-overlapping .ensures .answer ds held e, eq-eqb (first-overlapping .result) (args .entries) (c .before .before .if3 .left), c .before .first-uncovered .ensures .answer ds held e, eq-eqb (c .before .first-uncovered .result) (args .length) (c .if4 .left))) }
 
 pub check-places-spec : {M : Type 1} → statement M
 check-places-spec =
     tie.close
     (tie.spec
+    are-joined-requires
+    returns
     first-outside-requires
     mul-refuse
     element-copy-out-refuse
     refuse-requires
-    returns
+    returns-2
     first-overlapping-requires
     mul-refuse-2
     element-copy-out-refuse-2
     refuse-requires-2
-    returns-2
+    returns-3
     first-uncovered-requires
     refuse-requires-3
-    returns-3
-    returns-4)
+    returns-4
+    returns-5)

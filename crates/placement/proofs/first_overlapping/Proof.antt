@@ -8,6 +8,7 @@ use native.Mathlib.Omega.{arith}
 use native.Mathlib.Nat.{sub-zero}
 use borrow.Author.Needs.{needs}
 use Rattle.layout.specs.Search.{first, some}
+use Rattle.layout.proofs.Laws.{some-end}
 use Rattle.placement.specs.Sets.{overlapsAt, rule13By}
 use Rattle.placement.proofs.Sets.{Lower, first-hit, first-miss, first-none, some-hit, some-miss, some-none, overlaps-lower, overlaps-none, overlapping, none-shares, one-more}
 use Rattle.placement.proofs.first_overlapping.Statement.{statement}
@@ -49,7 +50,7 @@ loop-holds : tie.Need-loop-holds Inv-loop μ-loop Inv-pairs μ-pairs
 loop-holds c =
     let pairs = c .before .before .before .before .before .pairs in
     ⊎-elim
-    (λ w. rw (w .1) (omega arith, none-shares _ _ _ _ _ (pairs .inv .2) (c .before .is-clear .ensures (w .0 .taken))))
+    (λ w. rw (w .1) (omega arith, none-shares _ _ _ _ _ (pairs .inv .2) (c .before .is-clear .ensures (w .0 .taken)) ∙ sym (some-end _ (pairs .i))))
     (λ w. rw (w .1) (omega arith, rw (sub-zero (pairs .i))))
     (c .if2 .came)
 
