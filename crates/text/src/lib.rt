@@ -242,7 +242,7 @@ fn zeros_in(p: &[u8], at: usize, n: usize) -> bool
     all
 }
 
-// The same magnitude: at once of ten digits, and of twenty that begin with ten zeros, as every size and offset in an accepted product does.
+// The same magnitude: at once of ten digits, and of twenty that begin with ten zeros, as the size and offset of every set do that holds bytes of a product.
 fn magnitude_at(p: &[u8], from: usize, to: usize) -> u64
     requires { ⌜ (from ≤ to) × (to ≤ length (now p)) ⌝ }
     ensures { λ r. ⌜ r ≡ capped (digits 0 (part (now (p .entry)) from (to - from))) ⌝ }
