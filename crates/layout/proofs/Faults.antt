@@ -26,7 +26,7 @@ use Rattle.layout.proofs.Laws.{not-not-T, not-iff, and-T, imp-T, not-T�
 use Rattle.layout.proofs.Tests.{data-T, nonEmpty-T, holds-T, shares-T, of-kind, kind-is, variable-T, variable-kind, numbers-T, state-T, states-T, lengths-are, one-lengths, number-is, one-number, counted-once, once-found, once-counted}
 use Rattle.layout.proofs.SphText.{line-T, begins-T}
 use Rattle.layout.proofs.Judges.{Judges, same-faults, need-judges, need-then-judges, both-judges, where-judges, entries-judge, places-judge, in-order, laidOut-judges}
-use Rattle.layout.proofs.Starts.{mph-length, dsd-length, spare-length}
+use Rattle.layout.proofs.Starts.{mph-length, lines-length}
 
 ruleset tests = (some-T, and-T, imp-T, not-T′, leb-T, eqb-T, eqZ-T, leZ-T, ltZ-T)
 
@@ -134,14 +134,6 @@ module _ (b : List ℕ) (n : ℕ) where
       (places-judge (rule7At (sphLines b)) 7 none 0 (length (sphLines b)) (λ i. T (lineBegins (sphLines b) i) × (T (line (drop i (sphLines b))) → ⊥)) (λ i. 1247 + i) (λ i j l. omega arith)
       (λ i. need-judges (lineBegins (sphLines b) i ⇒ line (drop i (sphLines b))) 7 (1247 + i) none (not-imp-T (lineBegins (sphLines b) i) (line (drop i (sphLines b))))))
 
-  dsd-lines : (d : List ℕ) → length (layout (linesOf d)) ≡ 280
-  unfolding linesOf
-  dsd-lines d = go (eqb (byteAt d 0) 32)
-    where
-      go : (t : Bool) → length (layout (cond t spareDsd dsd)) ≡ 280
-      go true = spare-length
-      go false = dsd-length
-
   -- the lines that decide a DSD
   which-lines : (d : List ℕ) (i : ℕ) → LaidOut (layout (linesOf d)) d i ↔ DsdLaidOut d i
   unfolding linesOf
@@ -156,8 +148,8 @@ module _ (b : List ℕ) (n : ℕ) where
   judges8 =
       entries-judge (rule8At b) 8 (entries b) (λ e p. (i : ℕ) × ((i < 280) × ((DsdLaidOut (dsdBytes b e) i → ⊥) × (p ≡ dsdAt b e + i))))
       (λ j. same-faults _ _ (λ p e. (
-        λ f. ((f .0, (omega (arith, dsd-lines (dsdBytes b j), f .1 .0), (not-iff (which-lines (dsdBytes b j) (f .0)) .0 (f .1 .1 .0), f .1 .1 .1 .0))), f .1 .1 .1 .1),
-        λ f. (f .0 .0, (omega (arith, dsd-lines (dsdBytes b j), f .0 .1 .0), (not-iff (which-lines (dsdBytes b j) (f .0 .0)) .1 (f .0 .1 .1 .0), (f .0 .1 .1 .1, f .1)))),
+        λ f. ((f .0, (omega (arith, lines-length (dsdBytes b j), f .1 .0), (not-iff (which-lines (dsdBytes b j) (f .0)) .0 (f .1 .1 .0), f .1 .1 .1 .0))), f .1 .1 .1 .1),
+        λ f. (f .0 .0, (omega (arith, lines-length (dsdBytes b j), f .0 .1 .0), (not-iff (which-lines (dsdBytes b j) (f .0 .0)) .1 (f .0 .1 .1 .0), (f .0 .1 .1 .1, f .1)))),
       )) (laidOut-judges 8 j (layout (linesOf (dsdBytes b j))) (dsdBytes b j) (dsdAt b j)))
 
   pub judges9 : Judges (rule9 b n) 9 (Fault9 b n)

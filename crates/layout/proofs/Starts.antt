@@ -1,10 +1,15 @@
 -- The lines of document 01 begin at the bytes that it prints, and end at 1,247 and 280.
 -- Assumes nothing.
-use mathlib.Core.List.{[], _∷_}
+use Prim.Native.Nat.{ℕ}
+use mathlib.Core.Bool.{Bool, true, false, cond}
+use mathlib.Core.List.{List, [], _∷_}
 use mathlib.Core.Path.{_≡_, refl}
+use lib.Dec.{eqb}
 use lib.ListN.{length}
+use Rattle.layout.specs.Bytes.{byteAt}
 use Rattle.layout.specs.Text.{lineClasses, valueClasses, layout, startsOf}
 use Rattle.layout.specs.Lines.{mph, dsd, spareDsd}
+use Rattle.layout.specs.Rules.{linesOf}
 
 pub mph-starts :
     startsOf 0 mph
@@ -31,3 +36,12 @@ dsd-length = refl
 pub spare-length : length (layout spareDsd) ≡ 280
 unfolding layout spareDsd lineClasses valueClasses
 spare-length = refl
+
+-- whichever lines decide a DSD
+pub lines-length : (d : List ℕ) → length (layout (linesOf d)) ≡ 280
+unfolding linesOf
+lines-length d = go (eqb (byteAt d 0) 32)
+  where
+    go : (t : Bool) → length (layout (cond t spareDsd dsd)) ≡ 280
+    go true = spare-length
+    go false = dsd-length

@@ -8,7 +8,7 @@ use native.Mathlib.Omega.{arith}
 use native.Mathlib.Nat.{add-zero, add-suc, suc-add}
 use lib.Dec.{eqb}
 use lib.ListN.{length, take, drop, getD, length-drop}
-use lib.Seq.{drop-cons, getD-take, getD-drop, length-take-le}
+use lib.Seq.{drop-cons, length-take-le}
 use borrow.Author.Tests.{eq-eqb, ne-eqb}
 use Rattle.layout.specs.Bytes.{part, byteAt}
 use Rattle.layout.specs.Text.{Class, fits, layout}
@@ -17,7 +17,7 @@ use Rattle.layout.specs.Rules.{linesOf}
 use Rattle.layout.specs.Answer.{Answer, accepted, refused, need, _orElse_}
 use Rattle.layout.specs.Search.{first, laidOut}
 use Rattle.layout.proofs.Laws.{first-step, laidOut-take}
-use Rattle.layout.proofs.Starts.{dsd-length, spare-length}
+use Rattle.layout.proofs.Starts.{lines-length}
 use Rattle.text.proofs.Parts.{byte-part}
 use Rattle.lines.specs.Table.{badPlace, badInDsd, rule8From}
 use Rattle.lines.proofs.Spans.{bad-bounds}
@@ -45,8 +45,8 @@ header-answer n e ks b p r m found q h = rw (found, ← q) (answer n e ks b p (o
 
 module _ (b : List ℕ) (at : ℕ) where
   first-byte : byteAt (part b at sizeOfDsd) 0 ≡ getD b at 0
-  unfolding part byteAt
-  first-byte = getD-take sizeOfDsd (drop at b) 0 0 (omega arith) ∙ getD-drop at b 0 0 ∙ rw (add-zero at)
+  unfolding byteAt
+  first-byte = byte-part b at sizeOfDsd 0 (omega arith) ∙ rw (add-zero at)
 
   module _ (r : ℕ) where
     pub bad-spare : getD b at 0 ≡ 32 → r ≡ badPlace (layout spareDsd) b at → r ≡ badInDsd b at
@@ -84,14 +84,6 @@ module _ (b : List ℕ) (at : ℕ) where
 
 -- ---- rule 8
 
-lines-long : (d : List ℕ) → length (layout (linesOf d)) ≡ sizeOfDsd
-unfolding linesOf
-lines-long d = go (eqb (byteAt d 0) 32)
-  where
-    go : (t : Bool) → length (layout (cond t spareDsd dsd)) ≡ sizeOfDsd
-    go true = spare-length
-    go false = dsd-length
-
 -- r is the first bad place of DSD i
 pub dsd-answer : (b : List ℕ) (from i r : ℕ) → r ≡ badInDsd b (from + sizeOfDsd * i) → from + sizeOfDsd * i + sizeOfDsd ≤ length b
     → rule8From b from i ≡ need (eqb r (from + sizeOfDsd * i + sizeOfDsd)) 8 r i
@@ -99,7 +91,7 @@ unfolding rule8From badInDsd part
 dsd-answer b from i r found h =
     let at = from + sizeOfDsd * i in
     let ks = layout (linesOf (part b at sizeOfDsd)) in
-    let long : length ks ≡ sizeOfDsd = lines-long (part b at sizeOfDsd) in
+    let long : length ks ≡ sizeOfDsd = lines-length (part b at sizeOfDsd) in
     laidOut-take 8 i ks (drop at b) at sizeOfDsd (omega arith) ∙ header-answer 8 i ks b at r (at + sizeOfDsd) found (omega arith) h
 
 -- what is left of the search from i on is the whole

@@ -1,6 +1,7 @@
 // The check of header lines against the layout of document 01, "Header text": the first byte that is not as laid out.
-// A header whose bytes all lie between the lowest and the highest that may stand at their places is as laid out. Any other goes row by row through a
-// constant table of line start, kind and width, and span by span: the literal bytes from the last value on, and the value. A spare's value is its blanks.
+// A header whose bytes all lie between the lowest and the highest that may stand at their places, none of them barred there, is as laid out. Any other
+// goes row by row through a constant table of line start, kind and width, and span by span: the literal bytes from the last value on, and the value. A
+// spare's value is its blanks.
 mod tables;
 
 use dsd::Entry;
@@ -235,7 +236,8 @@ fn laid_in(
     all
 }
 
-// The whole main header is as laid out. In parts, each short enough that the compiler unrolls it: then it needs no copy of the tables.
+// The whole main header is as laid out. In parts, each short enough that the compiler unrolls it: then it needs no copy of the tables. The last begins one
+// byte early, so that it too is whole blocks of 16.
 fn main_header_laid(p: &[u8]) -> bool
     requires { ⌜ sizeOfMph ≤ length (now p) ⌝ }
     ensures { λ r. ⌜ (r ≡ true → sizeOfMph ≡ badPlace (layout mph) (now (p .entry)) 0) ⌝ }
@@ -266,7 +268,7 @@ fn main_header_lines(p: &[u8]) -> usize
     )
 }
 
-// The same.
+// The first byte of the main header that is not as laid out, or its end (rule 3).
 pub fn main_header_check(p: &[u8]) -> usize
     requires { ⌜ sizeOfMph ≤ length (now p) ⌝ }
     ensures { λ r. ⌜ laidOut 3 128 0 (layout mph) (now (p .entry)) ≡ need (eqb r sizeOfMph) 3 r 128 ⌝ }
