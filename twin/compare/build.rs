@@ -1,4 +1,4 @@
-//! Links the proved library, `libhost.a`, and tells the benchmark what the twin is compiled with.
+//! Links the proved library, `libambrothel.a`, and tells the benchmark what the twin is compiled with.
 
 use std::env;
 use std::path::PathBuf;
@@ -17,18 +17,18 @@ fn link_library() {
         Some(folder) => package.join(folder),
         None => package.join("../../target/staticlib"),
     };
-    let library = folder.join("libhost.a");
+    let library = folder.join("libambrothel.a");
     println!("cargo::rerun-if-changed={}", library.display());
     if !library.is_file() {
         println!(
-            "cargo::error=No {}: run `rt staticlib host` at the root of the repository first, or name the \
-             folder of libhost.a in AMBROTHEL_LIBRARY.",
+            "cargo::error=No {}: run `rt staticlib ambrothel` at the root of the repository first, or name the \
+             folder of libambrothel.a in AMBROTHEL_LIBRARY.",
             library.display()
         );
         return;
     }
     println!("cargo::rustc-link-search=native={}", folder.display());
-    println!("cargo::rustc-link-lib=static=host");
+    println!("cargo::rustc-link-lib=static=ambrothel");
 }
 
 fn tell_compiler() {

@@ -1,4 +1,4 @@
-// What every public call answers for the products whose files the arguments name, as the words, texts and doubles that `host` writes: a line for each
+// What every public call answers for the products whose files the arguments name, as the words, texts and doubles that `ambrothel` writes: a line for each
 // call. For the stored products the twin has printed what must come out.
 ghost use mathlib.Core.Path.{_≡_};
 ghost use Prim.Native.Nat.{_+_, _*_, _≤_};
@@ -110,7 +110,7 @@ fn show_entries(words: &[u64; 644], texts: &[u8])
 fn show_directory(p: &[u8]) -> [u64; 644] {
     let mut words = [0u64; 644];
     let mut texts = [0u8; 11520];
-    host::ambrothel_open_directory(p, &mut words, &mut texts);
+    ambrothel::ambrothel_open_directory(p, &mut words, &mut texts);
     let head = [words[0], words[1], words[2], words[3]];
     print_words(b"directory ", &[], &head);
     show_entries(&words, &texts);
@@ -120,7 +120,7 @@ fn show_directory(p: &[u8]) -> [u64; 644] {
 fn show_header(p: &[u8]) {
     let mut words = [0u64; 25];
     let mut texts = [0u8; 289];
-    host::ambrothel_header_values(p, &mut words, &mut texts);
+    ambrothel::ambrothel_header_values(p, &mut words, &mut texts);
     print_words(b"header ", &[], &words);
     if words[0] == 0 {
         print_text(b"texts ", &texts);
@@ -148,21 +148,21 @@ fn print_part(name: &[u8], asked: &[u64], size: u64, bytes: &[u8])
 
 fn show_sph_place(p: &[u8]) {
     let mut place = [0u64; 5];
-    host::ambrothel_sph_place(p, &mut place);
+    ambrothel::ambrothel_sph_place(p, &mut place);
     print_words(b"sph_place ", &[], &place);
 }
 
 fn show_sph_part(p: &[u8]) {
     let mut count = [0u64; 1];
     let mut bytes = [0u8; 65536];
-    host::ambrothel_sph_part(p, &mut count, &mut bytes);
+    ambrothel::ambrothel_sph_part(p, &mut count, &mut bytes);
     print_part(b"sph_part ", &[], count[0], &bytes);
 }
 
 fn show_record_place(p: &[u8], entry: usize, asked: usize) {
     let question = [entry as u64, asked as u64];
     let mut place = [0u64; 5];
-    host::ambrothel_record_place(p, entry, asked, &mut place);
+    ambrothel::ambrothel_record_place(p, entry, asked, &mut place);
     print_words(b"record_place ", &question, &place);
 }
 
@@ -170,7 +170,7 @@ fn show_record_part(p: &[u8], entry: usize, asked: usize) {
     let question = [entry as u64, asked as u64];
     let mut count = [0u64; 1];
     let mut bytes = [0u8; 65536];
-    host::ambrothel_record_part(p, entry, asked, &mut count, &mut bytes);
+    ambrothel::ambrothel_record_part(p, entry, asked, &mut count, &mut bytes);
     print_part(b"record_part ", &question, count[0], &bytes);
 }
 
@@ -178,7 +178,7 @@ fn show_record_part(p: &[u8], entry: usize, asked: usize) {
 fn show_field(p: &[u8], entry: usize, asked: usize, kind: usize) {
     let question = [entry as u64, asked as u64, kind as u64, kind as u64];
     let mut words = [0u64; 7];
-    host::ambrothel_field_at(p, entry, asked, kind, kind, &mut words);
+    ambrothel::ambrothel_field_at(p, entry, asked, kind, kind, &mut words);
     print_words(b"field_at ", &question, &words);
 }
 
@@ -206,7 +206,7 @@ fn show_point(
 ) {
     let mut words = [0u64; 3];
     let mut point = [0.0f64; 3];
-    host::ambrothel_point_at(
+    ambrothel::ambrothel_point_at(
         p,
         entry,
         asked,
@@ -277,7 +277,7 @@ fn show_all_records(p: &[u8], directory: &[u64; 644]) {
 
 fn show_judge(p: &[u8]) {
     let mut words = [0u64; 3];
-    host::ambrothel_judge(p, &mut words);
+    ambrothel::ambrothel_judge(p, &mut words);
     print_words(b"judge ", &[], &words);
 }
 

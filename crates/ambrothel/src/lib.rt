@@ -19,7 +19,7 @@ ghost use Rattle.layout.specs.Fields.{fieldReply, pointReply};
 ghost use Rattle.words.specs.Words.{verdictWords, placeWords, fieldWords};
 ghost use Rattle.words.specs.Lent.{OneRoom};
 ghost use Rattle.words.specs.Rooms.{PartRooms, PointRooms};
-ghost use Rattle.host.specs.Calls.{DirectoryCall, HeaderCall};
+ghost use Rattle.ambrothel.specs.Calls.{DirectoryCall, HeaderCall};
 
 #[no_mangle]
 pub extern "C" fn ambrothel_judge(p: &[u8], words: &mut [u64]) -> u32

@@ -1,14 +1,14 @@
--- `host::ambrothel_open_directory` meets its contract.
+-- `ambrothel::ambrothel_open_directory` meets its contract.
 -- Assumes nothing.
 use native.Mathlib.Omega.{arith}
 use Rattle.layout.specs.Answers.{verdictIs}
 use Rattle.layout.proofs.Replies.{told-refused}
 use Rattle.writing.proofs.Puts.{same-room}
 use Rattle.words.proofs.Lent.{first-short, second-short}
-use Rattle.host.proofs.Rooms.{words-long, texts-long, Held, opened-held, all-put}
+use Rattle.ambrothel.proofs.Rooms.{words-long, texts-long, Held, opened-held, all-put}
 use borrow.Author.Needs.{needs}
-use Rattle.host.proofs.ambrothel_open_directory.Statement.{statement}
-use Rattle.host.proofs.ambrothel_open_directory.Tie as tie
+use Rattle.ambrothel.proofs.ambrothel_open_directory.Statement.{statement}
+use Rattle.ambrothel.proofs.ambrothel_open_directory.Tie as tie
 
 returns : tie.Need-returns
 returns c = first-short (rw (words-long (c .before .before .before .before .args .p .now)) (c .if1 .taken))

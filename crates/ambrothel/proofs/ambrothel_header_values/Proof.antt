@@ -1,8 +1,8 @@
--- `host::ambrothel_header_values` meets its contract.
+-- `ambrothel::ambrothel_header_values` meets its contract.
 -- Assumes nothing.
 use borrow.Author.Needs.{needs}
-use Rattle.host.proofs.ambrothel_header_values.Statement.{statement}
-use Rattle.host.proofs.ambrothel_header_values.Tie as tie
+use Rattle.ambrothel.proofs.ambrothel_header_values.Statement.{statement}
+use Rattle.ambrothel.proofs.ambrothel_header_values.Tie as tie
 
 header-values-requires : tie.Need-header-values-requires
 header-values-requires c κs = search needs

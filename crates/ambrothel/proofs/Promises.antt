@@ -21,7 +21,7 @@ use Rattle.words.specs.Words.{verdictWords, placeWords, fieldWords, pointWords}
 use Rattle.words.specs.Headers.{headerWords, directoryWords}
 use Rattle.words.specs.Lent.{OneRoom, TwoRooms}
 use Rattle.words.specs.Rooms.{PointRooms}
-use Rattle.host.specs.Calls.{DirectoryCall, HeaderCall}
+use Rattle.ambrothel.specs.Calls.{DirectoryCall, HeaderCall}
 use Rattle.words.proofs.Lengths.{verdict-three, place-five, field-seven, point-three}
 use Rattle.words.proofs.Results.{room-word, first-room-word}
 

@@ -1,4 +1,4 @@
--- `host::ambrothel_point_at` meets its contract.
+-- `ambrothel::ambrothel_point_at` meets its contract.
 -- Assumes nothing.
 use mathlib.Core.Path.{ap}
 use native.Mathlib.Omega.{arith}
@@ -7,8 +7,8 @@ use Rattle.writing.proofs.Puts.{spelled}
 use Rattle.words.proofs.Lent.{first-short, second-short, both-written}
 use Rattle.words.proofs.Lengths.{point-three, doubles-three}
 use borrow.Author.Needs.{needs}
-use Rattle.host.proofs.ambrothel_point_at.Statement.{statement}
-use Rattle.host.proofs.ambrothel_point_at.Tie as tie
+use Rattle.ambrothel.proofs.ambrothel_point_at.Statement.{statement}
+use Rattle.ambrothel.proofs.ambrothel_point_at.Tie as tie
 
 returns : tie.Need-returns
 returns c = first-short (rw point-three (omega arith))

@@ -25,7 +25,7 @@ use Rattle.product.proofs.Calls.{now-dsds, now-few, now-directory}
 use Rattle.words.specs.Headers.{numberWords, directoryWords, directoryTexts}
 use Rattle.words.proofs.Lengths.{directory-words, directory-texts}
 use Rattle.words.proofs.Lent.{both-written}
-use Rattle.host.specs.Calls.{DirectoryCall}
+use Rattle.ambrothel.specs.Calls.{DirectoryCall}
 
 -- ---- how long the answer is
 

@@ -1,8 +1,8 @@
--- `host::ambrothel_sph_part` meets its contract.
+-- `ambrothel::ambrothel_sph_part` meets its contract.
 -- Assumes nothing.
 use borrow.Author.Needs.{needs}
-use Rattle.host.proofs.ambrothel_sph_part.Statement.{statement}
-use Rattle.host.proofs.ambrothel_sph_part.Tie as tie
+use Rattle.ambrothel.proofs.ambrothel_sph_part.Statement.{statement}
+use Rattle.ambrothel.proofs.ambrothel_sph_part.Tie as tie
 
 sph-part-requires : tie.Need-sph-part-requires
 sph-part-requires c κs = search needs

@@ -1,8 +1,8 @@
--- `host::ambrothel_record_part` meets its contract.
+-- `ambrothel::ambrothel_record_part` meets its contract.
 -- Assumes nothing.
 use borrow.Author.Needs.{needs}
-use Rattle.host.proofs.ambrothel_record_part.Statement.{statement}
-use Rattle.host.proofs.ambrothel_record_part.Tie as tie
+use Rattle.ambrothel.proofs.ambrothel_record_part.Statement.{statement}
+use Rattle.ambrothel.proofs.ambrothel_record_part.Tie as tie
 
 record-part-requires : tie.Need-record-part-requires
 record-part-requires c κs = search needs
