@@ -2,7 +2,8 @@
  *
  *     show PRODUCT [ENTRY RECORD]
  *
- * Without ENTRY and RECORD it is record 0 of entry 0. */
+ * Without ENTRY and RECORD it is record 0 of entry 0. The exit status is 0; 1 where something is refused; 2 where the
+ * arguments are wrong, the product cannot be read or the output cannot be written. */
 #include "ambrothel.h"
 
 #include <inttypes.h>
@@ -10,7 +11,7 @@
 #include <stdlib.h>
 #include <string.h>
 
-static const char *const KINDS[] = {"", "sc", "uc", "ss", "us", "sl", "ul", "fl", "do", "mjd"};
+static const char *const KIND_NAMES[] = {"", "sc", "uc", "ss", "us", "sl", "ul", "fl", "do", "mjd"};
 
 /* The whole file, or NULL with a message. The room is never empty, so that there is a pointer to lend. */
 static uint8_t *read_file(const char *name, size_t *length)
@@ -36,7 +37,7 @@ static uint8_t *read_file(const char *name, size_t *length)
         bytes = more;
     }
     if (bytes == NULL || ferror(file)) {
-        fprintf(stderr, "%s: cannot be read whole\n", name);
+        perror(name);
         free(bytes);
         bytes = NULL;
     }
@@ -47,11 +48,26 @@ static uint8_t *read_file(const char *name, size_t *length)
 /* Says what is refused, if something is. */
 static int is_refused(const uint64_t *words)
 {
-    if (words[0] == 0) {
+    const uint64_t number = words[AMBROTHEL_REFUSAL_NUMBER];
+    if (number == AMBROTHEL_NOT_REFUSED) {
         return 0;
     }
-    printf("refused %" PRIu64 " at %" PRIu64 ", entry %" PRIu64 "\n", words[0], words[1], words[2]);
+    printf("refused %" PRIu64 " at %" PRIu64 ", entry %" PRIu64 ": %s\n", number, words[AMBROTHEL_REFUSAL_PLACE],
+           words[AMBROTHEL_REFUSAL_ENTRY], ambrothel_refusal_text(number));
     return 1;
+}
+
+static void print_entry(size_t i, const uint64_t *words, const char *texts)
+{
+    const char *name = texts + AMBROTHEL_DIRECTORY_NAMES + AMBROTHEL_DIRECTORY_NAME_LENGTH * i;
+    if (words[AMBROTHEL_DIRECTORY_TYPES + i] == ' ') {
+        printf("entry %zu: spare\n", i);
+        return;
+    }
+    printf("entry %zu: type %c, %.*s offset %" PRIu64 ", size %" PRIu64 ", records %" PRIu64 " of %" PRId64 " bytes\n", i,
+           (char)words[AMBROTHEL_DIRECTORY_TYPES + i], AMBROTHEL_DIRECTORY_NAME_LENGTH, name,
+           words[AMBROTHEL_DIRECTORY_OFFSETS + i], words[AMBROTHEL_DIRECTORY_SIZES + i],
+           words[AMBROTHEL_DIRECTORY_COUNTS + i], (int64_t)words[AMBROTHEL_DIRECTORY_RECORD_SIZES + i]);
 }
 
 static int show_directory(const uint8_t *product, size_t length)
@@ -64,38 +80,33 @@ static int show_directory(const uint8_t *product, size_t length)
     if (is_refused(words)) {
         return 1;
     }
-    for (size_t i = 0; i < words[3]; i++) {
-        if (words[4 + i] == ' ') {
-            printf("entry %zu: spare\n", i);
-            continue;
-        }
-        printf("entry %zu: type %c, %.28s offset %" PRIu64 ", size %" PRIu64 ", records %" PRIu64 " of %" PRId64 " bytes\n", i,
-               (char)words[4 + i], (const char *)texts + 28 * i, words[132 + i], words[260 + i], words[388 + i],
-               (int64_t)words[516 + i]);
+    for (size_t i = 0; i < words[AMBROTHEL_DIRECTORY_ENTRIES]; i++) {
+        print_entry(i, words, (const char *)texts);
     }
     return 0;
 }
 
 static void print_field(size_t kind, const uint64_t *words)
 {
-    uint32_t single_bits = (uint32_t)words[4];
+    uint32_t single_bits = (uint32_t)words[AMBROTHEL_FIELD_BITS];
     float single_value;
     double double_value;
-    printf("  %-3s ", KINDS[kind]);
-    switch (words[3]) {
-    case 1:
-        printf("%" PRId64 "\n", (int64_t)words[4]);
+    printf("  %-3s ", KIND_NAMES[kind]);
+    switch (words[AMBROTHEL_FIELD_CASE]) {
+    case AMBROTHEL_CASE_WHOLE:
+        printf("%" PRId64 "\n", (int64_t)words[AMBROTHEL_FIELD_NUMBER]);
         break;
-    case 2:
+    case AMBROTHEL_CASE_SINGLE:
         memcpy(&single_value, &single_bits, sizeof single_value);
         printf("%.9g\n", (double)single_value);
         break;
-    case 3:
-        memcpy(&double_value, &words[4], sizeof double_value);
+    case AMBROTHEL_CASE_DOUBLE:
+        memcpy(&double_value, &words[AMBROTHEL_FIELD_BITS], sizeof double_value);
         printf("%.17g\n", double_value);
         break;
     default:
-        printf("day %" PRId64 ", second %" PRIu64 ", microsecond %" PRIu64 "\n", (int64_t)words[4], words[5], words[6]);
+        printf("day %" PRId64 ", second %" PRIu64 ", microsecond %" PRIu64 "\n", (int64_t)words[AMBROTHEL_FIELD_DAYS],
+               words[AMBROTHEL_FIELD_SECONDS], words[AMBROTHEL_FIELD_MICROSECONDS]);
     }
 }
 
@@ -106,14 +117,15 @@ static int show_record(const uint8_t *product, size_t length, size_t entry, size
     if (ambrothel_record_place(product, length, entry, record, place, AMBROTHEL_PLACE_WORDS) || is_refused(place)) {
         return 1;
     }
-    printf("record %zu of entry %zu: %" PRIu64 " bytes at %" PRIu64 "\n", record, entry, place[4], place[3]);
-    for (size_t kind = 1; kind <= 9; kind++) {
+    printf("record %zu of entry %zu: %" PRIu64 " bytes at %" PRIu64 "\n", record, entry,
+           place[AMBROTHEL_PLACE_LENGTH], place[AMBROTHEL_PLACE_START]);
+    for (size_t kind = AMBROTHEL_SC; kind <= AMBROTHEL_MJD; kind++) {
         uint64_t words[AMBROTHEL_FIELD_WORDS];
         if (ambrothel_field_at(product, length, entry, record, 0, kind, words, AMBROTHEL_FIELD_WORDS)) {
             return 1;
         }
-        if (words[0] != 0) {
-            printf("  %-3s passes the record's end\n", KINDS[kind]);
+        if (words[AMBROTHEL_REFUSAL_NUMBER] == AMBROTHEL_REFUSED_FIELD) {
+            printf("  %-3s passes the record's end\n", KIND_NAMES[kind]);
             continue;
         }
         print_field(kind, words);
@@ -121,23 +133,51 @@ static int show_record(const uint8_t *product, size_t length, size_t entry, size
     return 0;
 }
 
-int main(int count, char **words)
+/* A number of decimal digits and nothing else, that a size_t holds; or a message. */
+static int read_number(const char *text, size_t *number)
 {
-    if (count != 2 && count != 4) {
-        fprintf(stderr, "usage: show PRODUCT [ENTRY RECORD]\n");
-        return 2;
+    *number = 0;
+    for (const char *at = text; *at != '\0' || at == text; at++) {
+        const size_t digit = (size_t)(*at - '0');
+        if (*at < '0' || *at > '9' || *number > (SIZE_MAX - digit) / 10) {
+            fprintf(stderr, "show: '%s' is not a number of 0 to %zu\n", text, SIZE_MAX);
+            return 0;
+        }
+        *number = 10 * *number + digit;
     }
+    return 1;
+}
+
+static int show_product(const char *name, size_t entry, size_t record)
+{
     size_t length;
-    uint8_t *product = read_file(words[1], &length);
+    uint8_t *product = read_file(name, &length);
     if (product == NULL) {
         return 2;
     }
-    size_t entry = count == 4 ? strtoull(words[2], NULL, 10) : 0;
-    size_t record = count == 4 ? strtoull(words[3], NULL, 10) : 0;
     int status = show_directory(product, length);
     if (status == 0) {
         status = show_record(product, length, entry, record);
     }
     free(product);
+    return status;
+}
+
+int main(int count, char **arguments)
+{
+    size_t entry = 0;
+    size_t record = 0;
+    if (count != 2 && count != 4) {
+        fprintf(stderr, "usage: show PRODUCT [ENTRY RECORD]\n");
+        return 2;
+    }
+    if (count == 4 && !(read_number(arguments[2], &entry) && read_number(arguments[3], &record))) {
+        return 2;
+    }
+    int status = show_product(arguments[1], entry, record);
+    if (fclose(stdout) != 0) {
+        perror("show: standard output");
+        return 2;
+    }
     return status;
 }

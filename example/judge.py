@@ -1,0 +1,31 @@
+"""Judges products through the shared library.
+
+    python3 judge.py LIBRARY PRODUCT ..
+"""
+import ctypes
+import sys
+
+VERDICT_WORDS = 3  # AMBROTHEL_VERDICT_WORDS of include/ambrothel.h
+
+
+def judge(library, product):
+    """The number of the refusal, its place and its entry; three zeros where the product is accepted."""
+    words = (ctypes.c_uint64 * VERDICT_WORDS)()
+    returned = library.ambrothel_judge(product, ctypes.c_size_t(len(product)), words, ctypes.c_size_t(VERDICT_WORDS))
+    if returned != 0:
+        raise ValueError(f"ambrothel_judge returned {returned}")
+    return tuple(words)
+
+
+def main():
+    if len(sys.argv) < 3:
+        sys.exit(__doc__)
+    library = ctypes.CDLL(sys.argv[1])
+    library.ambrothel_judge.restype = ctypes.c_uint32
+    for name in sys.argv[2:]:
+        with open(name, "rb") as file:
+            number, place, entry = judge(library, file.read())
+        print(f"{name}: refused {number} {place} {entry}" if number else f"{name}: accepted")
+
+
+main()

@@ -1,0 +1,293 @@
+/* Every call of include/ambrothel.h and every name in it, held to what the samples have: C and C++ both take this file.
+ *
+ *     calls SAMPLES
+ *
+ * SAMPLES is the folder of the samples. What a value must be is read off the product here, by its keyword, or is
+ * what samples/README.md says. */
+#include "ambrothel.h"
+
+#include <stdio.h>
+#include <stdlib.h>
+#include <string.h>
+
+#define ROOM 65536
+#define MAIN_HEADER 1247
+
+static uint8_t product[ROOM];
+static size_t length;
+static uint64_t words[AMBROTHEL_DIRECTORY_WORDS];
+static uint8_t bytes[ROOM];
+
+#define CHECK(holds) check((holds), #holds, __LINE__)
+
+static void check(int holds, const char *what, int line)
+{
+    if (!holds) {
+        fprintf(stderr, "tests/calls.c:%d: not so: %s\n", line, what);
+        exit(1);
+    }
+}
+
+static void read_sample(const char *folder, const char *name)
+{
+    char path[4096];
+    FILE *file;
+    CHECK((size_t)snprintf(path, sizeof path, "%s/%s", folder, name) < sizeof path);
+    file = fopen(path, "rb");
+    if (file == NULL) {
+        perror(path);
+        exit(1);
+    }
+    length = fread(product, 1, ROOM, file);
+    CHECK(!ferror(file) && length > 0);
+    fclose(file);
+}
+
+static int is_refused(uint64_t number, uint64_t place, uint64_t entry)
+{
+    return words[AMBROTHEL_REFUSAL_NUMBER] == number && words[AMBROTHEL_REFUSAL_PLACE] == place &&
+           words[AMBROTHEL_REFUSAL_ENTRY] == entry;
+}
+
+static int is_answered(void)
+{
+    return is_refused(AMBROTHEL_NOT_REFUSED, 0, 0);
+}
+
+/* What stands behind KEYWORD= at the start of one of the main header's lines. */
+static const uint8_t *value_of(const char *keyword)
+{
+    size_t width = strlen(keyword);
+    size_t i;
+    for (i = 0; i + width < MAIN_HEADER; i++) {
+        if ((i == 0 || product[i - 1] == '\n') && memcmp(product + i, keyword, width) == 0 && product[i + width] == '=') {
+            return product + i + width + 1;
+        }
+    }
+    fprintf(stderr, "the main header has no %s\n", keyword);
+    exit(1);
+}
+
+/* A sign and digits, a point among them passed over. */
+static int64_t number_of(const char *keyword)
+{
+    const uint8_t *at = value_of(keyword);
+    int64_t number = 0;
+    int minus = *at == '-';
+    for (at++; (*at >= '0' && *at <= '9') || *at == '.'; at++) {
+        if (*at != '.') {
+            number = 10 * number + (*at - '0');
+        }
+    }
+    return minus ? -number : number;
+}
+
+struct place {
+    const char *keyword;
+    size_t place;
+    size_t length;
+};
+
+#define NUMBER(keyword) {#keyword, AMBROTHEL_HEADER_##keyword, 0}
+#define TEXT(keyword) {#keyword, AMBROTHEL_TEXT_##keyword, AMBROTHEL_TEXT_##keyword##_LENGTH}
+
+static const struct place NUMBERS[] = {
+    NUMBER(CYCLE),       NUMBER(REL_ORBIT),  NUMBER(ABS_ORBIT),       NUMBER(DELTA_UT1),  NUMBER(X_POSITION),
+    NUMBER(Y_POSITION),  NUMBER(Z_POSITION), NUMBER(X_VELOCITY),      NUMBER(Y_VELOCITY), NUMBER(Z_VELOCITY),
+    NUMBER(SAT_BINARY_TIME), NUMBER(CLOCK_STEP), NUMBER(LEAP_SIGN),   NUMBER(TOT_SIZE),   NUMBER(SPH_SIZE),
+    NUMBER(NUM_DSD),     NUMBER(DSD_SIZE),   NUMBER(NUM_DATA_SETS)};
+static const struct place BYTES[] = {NUMBER(PROC_STAGE), NUMBER(PHASE), NUMBER(LEAP_ERR), NUMBER(PRODUCT_ERR)};
+static const struct place TEXTS[] = {
+    TEXT(PRODUCT),       TEXT(REF_DOC),      TEXT(ACQUISITION_STATION), TEXT(PROC_CENTER),
+    TEXT(PROC_TIME),     TEXT(SOFTWARE_VER), TEXT(SENSING_START),       TEXT(SENSING_STOP),
+    TEXT(STATE_VECTOR_TIME), TEXT(VECTOR_SOURCE), TEXT(UTC_SBT_TIME),   TEXT(LEAP_UTC)};
+
+#define COUNT(array) (sizeof(array) / sizeof((array)[0]))
+
+static uint8_t *place_of(const char *keyword)
+{
+    return product + (value_of(keyword) - product);
+}
+
+/* Gives each value that no rule looks at one of its own, so that no name can be taken for another. */
+static void tell_apart(void)
+{
+    size_t i;
+    *place_of("PROC_STAGE") = 'P';
+    *place_of("PHASE") = 'Q';
+    *place_of("LEAP_ERR") = '1';
+    for (i = 0; i < COUNT(NUMBERS) - 5; i++) {
+        uint8_t *at = place_of(NUMBERS[i].keyword);
+        at[0] = i % 2 ? '-' : '+';
+        at[2] = (uint8_t)('1' + i / 9);
+        at[3] = (uint8_t)('1' + i % 9);
+    }
+    for (i = 0; i < COUNT(TEXTS); i++) {
+        place_of(TEXTS[i].keyword)[1] = (uint8_t)('A' + i);
+    }
+}
+
+static void check_header(void)
+{
+    size_t i;
+    tell_apart();
+    CHECK(ambrothel_header_values(product, length, words, AMBROTHEL_HEADER_WORDS, bytes, AMBROTHEL_HEADER_TEXTS) ==
+          AMBROTHEL_WRITTEN);
+    CHECK(is_answered());
+    for (i = 0; i < COUNT(NUMBERS); i++) {
+        check((int64_t)words[NUMBERS[i].place] == number_of(NUMBERS[i].keyword), NUMBERS[i].keyword, __LINE__);
+    }
+    for (i = 0; i < COUNT(BYTES); i++) {
+        check(words[BYTES[i].place] == *value_of(BYTES[i].keyword), BYTES[i].keyword, __LINE__);
+    }
+    for (i = 0; i < COUNT(TEXTS); i++) {
+        const uint8_t *text = value_of(TEXTS[i].keyword) + 1;
+        check(memcmp(bytes + TEXTS[i].place, text, TEXTS[i].length) == 0 && text[TEXTS[i].length] == '"',
+              TEXTS[i].keyword, __LINE__);
+    }
+}
+
+static void check_verdicts(const char *folder)
+{
+    read_sample(folder, "damaged-SCI_NL__1P");
+    CHECK(ambrothel_judge(product, length, words, AMBROTHEL_VERDICT_WORDS) == AMBROTHEL_WRITTEN);
+    CHECK(is_refused(AMBROTHEL_REFUSED_SET_NOT_FILLED, 28407, 26));
+    CHECK(ambrothel_judge(product, 0, words, AMBROTHEL_VERDICT_WORDS) == AMBROTHEL_WRITTEN);
+    CHECK(is_refused(AMBROTHEL_REFUSED_TOO_SHORT, 0, AMBROTHEL_NO_ENTRY));
+    words[0] = 77;
+    CHECK(ambrothel_judge(product, length, words, AMBROTHEL_VERDICT_WORDS - 1) == AMBROTHEL_ROOM_TOO_SHORT);
+    CHECK(words[0] == 77);
+    read_sample(folder, "case-b");
+    CHECK(ambrothel_judge(product, length, words, AMBROTHEL_VERDICT_WORDS) == AMBROTHEL_WRITTEN);
+    CHECK(is_answered());
+}
+
+/* Entry 26 of the SCIAMACHY sample, NADIR, beside what its DSD says. */
+static void check_directory(const char *folder)
+{
+    const size_t i = 26;
+    const uint8_t *dsd;
+    read_sample(folder, "built-SCI_NL__1P");
+    dsd = product + MAIN_HEADER + number_of("SPH_SIZE") - 280 * (number_of("NUM_DSD") - (int64_t)i);
+    CHECK(ambrothel_open_directory(product, length, words, AMBROTHEL_DIRECTORY_WORDS, bytes, AMBROTHEL_DIRECTORY_TEXTS) ==
+          AMBROTHEL_WRITTEN);
+    CHECK(is_answered());
+    CHECK(words[AMBROTHEL_DIRECTORY_ENTRIES] == 41);
+    CHECK(words[AMBROTHEL_DIRECTORY_TYPES + i] == dsd[47] && dsd[47] == 'M');
+    CHECK(words[AMBROTHEL_DIRECTORY_OFFSETS + i] == strtoull((const char *)dsd + 134, NULL, 10));
+    CHECK(words[AMBROTHEL_DIRECTORY_SIZES + i] == strtoull((const char *)dsd + 171, NULL, 10));
+    CHECK(words[AMBROTHEL_DIRECTORY_COUNTS + i] == strtoull((const char *)dsd + 208, NULL, 10));
+    CHECK((int64_t)words[AMBROTHEL_DIRECTORY_RECORD_SIZES + i] == -1);
+    CHECK(words[AMBROTHEL_DIRECTORY_TYPES + AMBROTHEL_MOST_ENTRIES - 1] == 0);
+    CHECK(memcmp(bytes + AMBROTHEL_DIRECTORY_NAMES + AMBROTHEL_DIRECTORY_NAME_LENGTH * i, dsd + 9,
+                 AMBROTHEL_DIRECTORY_NAME_LENGTH) == 0);
+    CHECK(memcmp(bytes + AMBROTHEL_DIRECTORY_FILENAMES + AMBROTHEL_DIRECTORY_FILENAME_LENGTH * i, dsd + 59,
+                 AMBROTHEL_DIRECTORY_FILENAME_LENGTH) == 0);
+}
+
+static void check_lines(void)
+{
+    const size_t end = (size_t)(MAIN_HEADER + number_of("SPH_SIZE") - 280 * number_of("NUM_DSD"));
+    CHECK(ambrothel_sph_place(product, length, words, AMBROTHEL_PLACE_WORDS) == AMBROTHEL_WRITTEN);
+    CHECK(is_answered());
+    CHECK(words[AMBROTHEL_PLACE_START] == MAIN_HEADER && words[AMBROTHEL_PLACE_LENGTH] == end - MAIN_HEADER);
+    CHECK(ambrothel_sph_part(product, length, words, AMBROTHEL_PART_WORDS, bytes, ROOM) == AMBROTHEL_WRITTEN);
+    CHECK(words[AMBROTHEL_PART_LENGTH] == end - MAIN_HEADER && end > MAIN_HEADER);
+    CHECK(memcmp(bytes, product + MAIN_HEADER, end - MAIN_HEADER) == 0);
+    CHECK(ambrothel_sph_part(product, length, words, AMBROTHEL_PART_WORDS, bytes, end - MAIN_HEADER - 1) ==
+          AMBROTHEL_ROOM_TOO_SHORT);
+}
+
+/* The last record of case B's entry, and the one behind it. */
+static void check_records(const char *folder)
+{
+    read_sample(folder, "case-b");
+    CHECK(ambrothel_record_place(product, length, 0, 2, words, AMBROTHEL_PLACE_WORDS) == AMBROTHEL_WRITTEN);
+    CHECK(is_answered());
+    CHECK(words[AMBROTHEL_PLACE_START] == 1537 && words[AMBROTHEL_PLACE_LENGTH] == 5);
+    CHECK(ambrothel_record_part(product, length, 0, 2, words, AMBROTHEL_PART_WORDS, bytes, 5) == AMBROTHEL_WRITTEN);
+    CHECK(words[AMBROTHEL_PART_LENGTH] == 5 && memcmp(bytes, product + 1537, 5) == 0);
+    CHECK(ambrothel_record_place(product, length, 0, 3, words, AMBROTHEL_PLACE_WORDS) == AMBROTHEL_WRITTEN);
+    CHECK(is_refused(AMBROTHEL_REFUSED_RECORD, 0, 0));
+    CHECK(ambrothel_record_place(product, length, 1, 0, words, AMBROTHEL_PLACE_WORDS) == AMBROTHEL_WRITTEN);
+    CHECK(is_refused(AMBROTHEL_REFUSED_ENTRY, 0, AMBROTHEL_NO_ENTRY));
+}
+
+/* Case B's three records made one of fifteen bytes: ff ff ff fe 80 .. */
+static void make_one_record(void)
+{
+    static const uint8_t record[15] = {0xff, 0xff, 0xff, 0xfe, 0x80, 0, 0, 1, 0, 0, 0, 2, 9, 9, 9};
+    memcpy(product + MAIN_HEADER + 207, "+0000000001", 11);
+    memcpy(product + MAIN_HEADER + 228, "+0000000015", 11);
+    memcpy(product + 1527, record, sizeof record);
+}
+
+static int has_field(size_t offset, enum ambrothel_kind kind, enum ambrothel_case which, int64_t value)
+{
+    CHECK(ambrothel_field_at(product, length, 0, 0, offset, (size_t)kind, words, AMBROTHEL_FIELD_WORDS) ==
+          AMBROTHEL_WRITTEN);
+    return is_answered() && words[AMBROTHEL_FIELD_CASE] == (uint64_t)which &&
+           (int64_t)words[AMBROTHEL_FIELD_NUMBER] == value;
+}
+
+static void check_fields(void)
+{
+    make_one_record();
+    CHECK(has_field(0, AMBROTHEL_SC, AMBROTHEL_CASE_WHOLE, -1) && has_field(0, AMBROTHEL_UC, AMBROTHEL_CASE_WHOLE, 255));
+    CHECK(has_field(2, AMBROTHEL_SS, AMBROTHEL_CASE_WHOLE, -2) && has_field(2, AMBROTHEL_US, AMBROTHEL_CASE_WHOLE, 65534));
+    CHECK(has_field(0, AMBROTHEL_SL, AMBROTHEL_CASE_WHOLE, -2));
+    CHECK(has_field(0, AMBROTHEL_UL, AMBROTHEL_CASE_WHOLE, 4294967294));
+    CHECK(has_field(0, AMBROTHEL_FL, AMBROTHEL_CASE_SINGLE, 0xfffffffe));
+    CHECK(has_field(4, AMBROTHEL_DO, AMBROTHEL_CASE_DOUBLE, INT64_MIN + 0x100000002));
+    CHECK(words[AMBROTHEL_FIELD_BITS] == UINT64_C(0x8000000100000002));
+    CHECK(has_field(0, AMBROTHEL_MJD, AMBROTHEL_CASE_TIME, -2) && (int64_t)words[AMBROTHEL_FIELD_DAYS] == -2);
+    CHECK(words[AMBROTHEL_FIELD_SECONDS] == 0x80000001 && words[AMBROTHEL_FIELD_MICROSECONDS] == 2);
+    CHECK(!has_field(12, AMBROTHEL_SL, AMBROTHEL_CASE_REFUSED, 0) && is_refused(AMBROTHEL_REFUSED_FIELD, 12, 0));
+    CHECK(ambrothel_field_at(product, length, 0, 0, 0, 10, words, AMBROTHEL_FIELD_WORDS) == AMBROTHEL_WRITTEN);
+    CHECK(is_refused(AMBROTHEL_REFUSED_KIND, 0, 0) && words[AMBROTHEL_FIELD_CASE] == AMBROTHEL_CASE_REFUSED);
+}
+
+static void check_point(void)
+{
+    double point[AMBROTHEL_POINT_DOUBLES];
+    CHECK(ambrothel_point_at(product, length, 0, 0, 0, 8, 4, words, AMBROTHEL_POINT_WORDS, point,
+                             AMBROTHEL_POINT_DOUBLES) == AMBROTHEL_WRITTEN);
+    CHECK(is_answered());
+    CHECK(point[AMBROTHEL_POINT_LATITUDE] == -2 / 1e6 && point[AMBROTHEL_POINT_LONGITUDE] == 2 / 1e6);
+    CHECK(point[AMBROTHEL_POINT_ALTITUDE] == 2147483649.0 / 100);
+    CHECK(ambrothel_point_at(product, length, 0, 0, 0, 4, 8, words, AMBROTHEL_POINT_WORDS, point,
+                             AMBROTHEL_POINT_DOUBLES) == AMBROTHEL_WRITTEN);
+    CHECK(is_refused(AMBROTHEL_REFUSED_POINT, 4, 0) && point[AMBROTHEL_POINT_LATITUDE] == 0);
+}
+
+/* Each number has a text of its own, and a number that is no refusal's has one too. */
+static void check_texts(void)
+{
+    uint64_t number, lower;
+    for (number = AMBROTHEL_NOT_REFUSED; number <= AMBROTHEL_REFUSED_POINT + 1; number++) {
+        CHECK(ambrothel_refusal_text(number)[0] != '\0');
+        for (lower = 0; lower < number; lower++) {
+            CHECK(strcmp(ambrothel_refusal_text(number), ambrothel_refusal_text(lower)) != 0);
+        }
+    }
+    CHECK(strcmp(ambrothel_refusal_text(UINT64_MAX), ambrothel_refusal_text(AMBROTHEL_REFUSED_POINT + 1)) == 0);
+    CHECK(strcmp(ambrothel_refusal_text(AMBROTHEL_REFUSED_TOT_SIZE), "TOT_SIZE is not the length") == 0);
+}
+
+int main(int count, char **arguments)
+{
+    if (count != 2) {
+        fprintf(stderr, "usage: calls SAMPLES\n");
+        return 2;
+    }
+    check_texts();
+    check_verdicts(arguments[1]);
+    check_header();
+    check_directory(arguments[1]);
+    check_lines();
+    check_records(arguments[1]);
+    check_fields();
+    check_point();
+    printf("all nine calls answer as the samples say, version %d\n", AMBROTHEL_VERSION);
+    return 0;
+}
