@@ -9,6 +9,7 @@ mod judged;
 mod layout;
 mod listing;
 mod main_header;
+pub mod output;
 mod refusal;
 mod sets;
 mod sph_lines;

@@ -5,6 +5,7 @@ mod common;
 mod descriptors;
 mod header_text;
 mod listing;
+mod programs;
 mod random;
 mod records;
 mod rule_by_rule;
