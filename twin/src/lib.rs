@@ -12,6 +12,7 @@ mod main_header;
 pub mod output;
 mod refusal;
 mod sets;
+pub mod settings;
 mod sph_lines;
 mod states;
 mod text;

@@ -10,6 +10,7 @@ mod random;
 mod records;
 mod rule_by_rule;
 mod sets;
+mod settings;
 mod sph_lines;
 mod states;
 mod stored;

@@ -1,8 +1,9 @@
 //! Random products: good ones are accepted and their parts join to the product, damaged ones reach every
 //! refusal, and every call agrees with the verdict.
 
-use crate::common::{refusal, seed, NONE};
+use crate::common::{refusal, NONE};
 use twin::builder::Generator;
+use twin::settings::seed;
 use twin::{
     directory, field, header_values, judge, listing, point, record_part, record_place, sph_part,
     sph_place, Refusal, Verdict,
