@@ -38,7 +38,7 @@ pub fn number(name: &str, default: u64) -> u64 {
 pub fn read(name: &str, set: Option<OsString>, default: u64) -> Result<u64, String> {
     let Some(text) = set else { return Ok(default) };
     let number = text.to_str().and_then(|text| text.parse().ok());
-    number.ok_or_else(|| format!("{name} is {text:?}, and not a whole number below 2^64"))
+    number.ok_or_else(|| format!("{name} is {text:?}: it takes a whole number below 2^64"))
 }
 
 /// A seed out of the time and the process number. It is said past what a test keeps of its output for itself,
@@ -46,7 +46,8 @@ pub fn read(name: &str, set: Option<OsString>, default: u64) -> Result<u64, Stri
 fn drawn_seed() -> u64 {
     static DRAWN: OnceLock<u64> = OnceLock::new();
     *DRAWN.get_or_init(|| {
-        let time = SystemTime::now().duration_since(UNIX_EPOCH).map_or(0, |time| time.as_nanos() as u64);
+        let time =
+            SystemTime::now().duration_since(UNIX_EPOCH).map_or(0, |time| time.as_nanos() as u64);
         let seed = Generator::at(time, u64::from(process::id())).next_number();
         let said = writeln!(io::stderr(), "seed {seed}, drawn (TWIN_SEED={seed} gives it again)");
         said.expect("the seed is not said");

@@ -207,7 +207,7 @@ impl Generator {
             0 => return EntryDescription::spare(),
             1 => self.empty_entry(b'R', name),
             2 => self.empty_entry(set_type, name),
-            3 => self.records(set_type, name, 12, Generator::angles),
+            3 | 4 => self.records(set_type, name, 12, Generator::angles),
             _ => self.records(set_type, name, 1, Generator::bytes),
         };
         let length = self.index(63);

@@ -137,7 +137,7 @@ impl Generator {
         entry.data = self.bytes(size);
         let most = self.choose(&[1, 300, size]).min(size);
         let mut count = 1 + self.index(most);
-        while size % count != 0 {
+        while !size.is_multiple_of(count) {
             count -= 1;
         }
         entry.count = Some(Number::from(count as i128));

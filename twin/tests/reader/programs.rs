@@ -27,9 +27,14 @@ fn full() -> Stdio {
 
 #[test]
 fn a_write_that_fails_is_said() {
-    for (program, name) in
-        [(LIST, ""), (MAKE, "case-b"), (MAKE, ""), (MAKE, "good:1:1"), (VECTORS, "case-a"), (VECTORS, "")]
-    {
+    for (program, name) in [
+        (LIST, ""),
+        (MAKE, "case-b"),
+        (MAKE, ""),
+        (MAKE, "good:1:1"),
+        (VECTORS, "case-a"),
+        (VECTORS, ""),
+    ] {
         let complaint = complaint(run(program, name, Stdio::null(), full()));
         assert!(complaint.contains(": standard output cannot be written: "), "{complaint}");
     }

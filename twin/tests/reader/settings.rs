@@ -16,7 +16,7 @@ fn a_setting_is_its_number_or_the_default() {
 #[test]
 fn a_setting_that_is_no_number_is_an_error() {
     for text in ["", "x", "3 000", "3,000", "-1", "1e6", "0x10", "18446744073709551616", "random"] {
-        let error = format!("TWIN_PRODUCTS is {text:?}, and not a whole number below 2^64");
+        let error = format!("TWIN_PRODUCTS is {text:?}: it takes a whole number below 2^64");
         assert_eq!(read("TWIN_PRODUCTS", Some(text.into()), 5), Err(error));
     }
     assert!(read("TWIN_PRODUCTS", Some(OsString::from_vec(vec![b'7', 0xff])), 5).is_err());
