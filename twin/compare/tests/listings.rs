@@ -1,4 +1,4 @@
-//! The program that lists a product, `rt check listing` builds it, beside the twin's listing: random products, those
+//! The program that lists a product, which `rt check listing` builds, beside the twin's listing: random products, those
 //! of the lengths around the longest that is listed, those of the longest listing, and the named ones.
 
 use std::io::{ErrorKind, Write};
@@ -10,8 +10,7 @@ use twin::builder::{named_product, Generator, CATALOGUE_NAMES, NAMED_PRODUCTS};
 use twin::settings::{number, seed};
 use twin::{listing, LONGEST_LISTED};
 
-/// The sorts of random products that are listed, one after another; those of a length and the longest listing once
-/// in twenty times, any product otherwise.
+/// Sorts of random products that are listed once in twenty times each; otherwise it is any product.
 const SORTS: [&str; 5] = ["good-65536", "damaged-65536", "good-65535", "good-65537", "longest-listing"];
 const TURN: u64 = 20;
 
@@ -86,14 +85,14 @@ impl Program {
 }
 
 fn report(origin: &str, product: &[u8], run: &Output, expected: &[u8]) -> String {
-    let (written, said) = (run.stdout.escape_ascii(), run.stderr.escape_ascii());
-    format!(
-        "the program does not list as the twin\n{}  ended:    {}\n  program:  {written}\n  its standard error: {said}\n  \
-         twin:     {}",
-        report_of_product(origin, product),
-        run.status,
-        expected.escape_ascii()
-    )
+    let mut text = String::from("the program does not list as the twin\n");
+    text.push_str(&report_of_product(origin, product));
+    text.push_str(&format!("  ended:    {}\n", run.status));
+    for (said, bytes) in [("program:", &run.stdout[..]), ("errors:", &run.stderr), ("twin:", expected)]
+    {
+        text.push_str(&format!("  {said:9} {}\n", bytes.escape_ascii()));
+    }
+    text
 }
 
 /// How many of each sort were met.
@@ -110,12 +109,11 @@ struct Listed {
 impl Listed {
     fn count(&mut self, length: usize, listing: &[u8]) {
         let accepted = listing.ends_with(b"accepted\n");
-        let is = [length == LONGEST_LISTED, length == LONGEST_LISTED - 1, length > LONGEST_LISTED];
         self.accepted += u64::from(accepted);
-        self.accepted_of_65536 += u64::from(accepted && is[0]);
-        self.refused_of_65536 += u64::from(!accepted && is[0]);
-        self.accepted_of_65535 += u64::from(accepted && is[1]);
-        self.longer += u64::from(is[2]);
+        self.accepted_of_65536 += u64::from(accepted && length == LONGEST_LISTED);
+        self.refused_of_65536 += u64::from(!accepted && length == LONGEST_LISTED);
+        self.accepted_of_65535 += u64::from(accepted && length == LONGEST_LISTED - 1);
+        self.longer += u64::from(length > LONGEST_LISTED);
         self.of_longest_listing += u64::from(listing.len() == LONGEST_LISTING);
         assert!(listing.len() <= LONGEST_LISTING, "{}", listing.escape_ascii());
     }

@@ -35,7 +35,7 @@ impl Generator {
     }
 
     /// The description of a product that is accepted.
-    pub fn good_description(&mut self) -> Description {
+    pub(super) fn good_description(&mut self) -> Description {
         let many_entries = self.once_in(LARGE);
         let long_sph = self.once_in(if many_entries { 4 } else { LARGE });
         self.shaped(many_entries, long_sph)
