@@ -4,9 +4,10 @@
 use std::io::Write;
 
 use crate::words::{entry_words, Answer, Call};
+use crate::LONGEST_LISTED;
 
 /// The products whose text is stored, in its order.
-pub const VECTOR_PRODUCTS: [&str; 26] = [
+pub const VECTOR_PRODUCTS: [&str; 27] = [
     "case-b",
     "case-k",
     "case-l",
@@ -33,6 +34,7 @@ pub const VECTOR_PRODUCTS: [&str; 26] = [
     "every-entry-form",
     "unequal-lengths",
     "minus-zeros",
+    "listed-no-more",
 ];
 
 /// The most records of an entry that are asked for.
@@ -47,9 +49,13 @@ const RECORDS_WITH_FIELDS: usize = 3;
 const NAME_LENGTH: usize = 28;
 const FILENAME_LENGTH: usize = 62;
 
-/// The text of one product.
+/// The text of one product; of one that is longer than what is listed, that it is.
 pub fn vectors(name: &str, product: &[u8]) -> Vec<u8> {
     let mut lines = Lines { product, text: format!("product {name}\n").into_bytes() };
+    if product.len() > LONGEST_LISTED {
+        lines.numbers("longer than", &[], &[LONGEST_LISTED as u64]);
+        return lines.text;
+    }
     lines.numbers("judge", &[], &Call::Judge.answer(product).words);
     let directory = Call::OpenDirectory.answer(product);
     lines.directory(&directory);

@@ -5,6 +5,7 @@ use std::fmt::Display;
 use twin::words::{Answer, Call};
 
 use crate::library::{ask, ROOM_TOO_SHORT, WRITTEN};
+use crate::met::Met;
 use crate::report::{report, report_of_product, Asked};
 use crate::rooms::{as_doubles, Lengths, Room};
 
@@ -15,6 +16,7 @@ pub struct Comparer {
     doubles: Room<u64>,
     origin: String,
     asked: usize,
+    met: Met,
 }
 
 impl Default for Comparer {
@@ -25,6 +27,7 @@ impl Default for Comparer {
             doubles: Room::new(0x4339_5a3c_9669_f00f),
             origin: String::new(),
             asked: 0,
+            met: Met::default(),
         }
     }
 }
@@ -43,6 +46,11 @@ impl Comparer {
     /// How many calls were compared.
     pub fn asked(&self) -> usize {
         self.asked
+    }
+
+    /// What was met in the answers that were compared.
+    pub fn met(&self) -> &Met {
+        &self.met
     }
 
     /// Asks both, lending up to eight elements more than the answer takes; answers what both wrote.
@@ -68,6 +76,7 @@ impl Comparer {
         if returned != WRITTEN || !same {
             self.fail(product, call, lengths, returned, Some(answer));
         }
+        self.met.count(call, answer);
     }
 
     /// Asks the library, lending rooms of these lengths, one of them too short.

@@ -3,10 +3,15 @@
 mod comparing;
 pub mod library;
 mod mapping;
+mod met;
 mod product_calls;
 mod report;
 mod rooms;
+mod shares;
 
 pub use comparing::Comparer;
 pub use mapping::Mapping;
+pub use met::{ByNumber, Met};
+pub use report::report_of_product;
 pub use rooms::Lengths;
+pub use shares::shared_out;

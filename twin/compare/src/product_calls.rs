@@ -5,11 +5,16 @@ use twin::builder::Generator;
 use twin::words::{entry_words, Answer, Call};
 
 use crate::comparing::Comparer;
+use crate::met::{ENTRIES_WORD, SPH_SIZE_WORD};
 
 /// The first byte behind the main header.
 const MAIN_HEADER_END: u64 = 1247;
-/// Where SPH_SIZE stands in the words of the header values.
-const SPH_SIZE_WORD: usize = 21;
+
+/// The longest SPH that is short, of how many products with a longer one all records are compared (one in so many),
+/// and of how many entries otherwise.
+const SHORT_SPH: u64 = 5000;
+const LONG_WHOLE: u64 = 8;
+const FEW_ENTRIES: usize = 4;
 
 /// Entries and records that are in no product.
 const FAR: [usize; 3] = [128, 1 << 32, usize::MAX];
@@ -19,22 +24,45 @@ impl Comparer {
     /// the product.
     pub fn compare_all(&mut self, product: &[u8], choices: &mut Generator) {
         let directory = self.compare_whole(product, choices);
+        if directory.words[0] == 0 {
+            self.compare_joined(product, &directory, choices);
+        }
+    }
+
+    /// The same, but of a product with long headers, on which a call takes long, most often only the records of a
+    /// few entries.
+    pub fn compare_most(&mut self, product: &[u8], choices: &mut Generator) {
+        let directory = self.compare_whole(product, choices);
+        let entries = directory.words[ENTRIES_WORD] as usize;
         if directory.words[0] != 0 {
             return;
         }
-        let sph_size = Call::HeaderValues.answer(product).words[SPH_SIZE_WORD];
-        let mut joined = Vec::with_capacity(product.len());
-        for entry in in_file_order(&directory) {
+        if sph_size(product) <= SHORT_SPH || choices.once_in(LONG_WHOLE) {
+            self.compare_joined(product, &directory, choices);
+            return;
+        }
+        for _ in 0..entries.min(FEW_ENTRIES) {
+            let entry = choices.index(entries);
             for record in 0..count_of(&directory, entry) {
+                self.compare_record(product, entry, record, choices);
+            }
+        }
+    }
+
+    /// Every record of an accepted product, joined, and the one behind the last of each entry.
+    fn compare_joined(&mut self, product: &[u8], directory: &Answer, choices: &mut Generator) {
+        let mut joined = Vec::with_capacity(product.len());
+        for entry in in_file_order(directory) {
+            for record in 0..count_of(directory, entry) {
                 joined.extend(self.compare_record(product, entry, record, choices));
             }
         }
-        for entry in 0..directory.words[3] as usize {
-            let record = count_of(&directory, entry);
+        for entry in 0..directory.words[ENTRIES_WORD] as usize {
+            let record = count_of(directory, entry);
             self.compare(product, Call::RecordPlace { entry, record });
             self.compare(product, Call::RecordPart { entry, record });
         }
-        if joined != product[(MAIN_HEADER_END + sph_size) as usize..] {
+        if joined != product[(MAIN_HEADER_END + sph_size(product)) as usize..] {
             self.fail_joining(product);
         }
     }
@@ -42,7 +70,7 @@ impl Comparer {
     /// Every public call, with the first records of each entry and its last.
     pub fn compare_some(&mut self, product: &[u8], most_records: usize, choices: &mut Generator) {
         let directory = self.compare_whole(product, choices);
-        for entry in 0..directory.words[3] as usize {
+        for entry in 0..directory.words[ENTRIES_WORD] as usize {
             let count = count_of(&directory, entry);
             for record in 0..count.min(most_records) {
                 self.compare_record(product, entry, record, choices);
@@ -59,7 +87,7 @@ impl Comparer {
             self.compare(product, call);
         }
         let directory = self.compare(product, Call::OpenDirectory);
-        let entries = directory.words[3] as usize;
+        let entries = directory.words[ENTRIES_WORD] as usize;
         let entry = choices.index(entries + 1);
         let record = if entry < entries { count_of(&directory, entry) } else { 0 };
         self.compare_refused(product, entry, record, choices);
@@ -96,8 +124,7 @@ impl Comparer {
         let part = self.compare(product, Call::RecordPart { entry, record });
         let length = part.bytes.len();
         if choices.once_in(3) {
-            let room = length.saturating_sub(3);
-            let offsets = [0; 3].map(|_| choices.index(room + 1));
+            let offsets = point_offsets(length, choices);
             self.compare(product, Call::PointAt { entry, record, offsets });
         } else {
             let (offset, kind) = (choices.index(length + 2), choices.index(11));
@@ -107,6 +134,22 @@ impl Comparer {
     }
 }
 
+/// Three offsets in a record of this length or just past its end, most often where words of four bytes stand.
+fn point_offsets(length: usize, choices: &mut Generator) -> [usize; 3] {
+    let room = length.saturating_sub(3);
+    let anywhere = [0; 3].map(|_| choices.index(room + 1));
+    if choices.once_in(4) {
+        anywhere
+    } else {
+        anywhere.map(|offset| offset / 4 * 4)
+    }
+}
+
+/// SPH_SIZE of an accepted product.
+fn sph_size(product: &[u8]) -> u64 {
+    Call::HeaderValues.answer(product).words[SPH_SIZE_WORD]
+}
+
 /// The number of records of an entry.
 fn count_of(directory: &Answer, entry: usize) -> usize {
     entry_words(directory, entry)[3] as usize
@@ -114,7 +157,7 @@ fn count_of(directory: &Answer, entry: usize) -> usize {
 
 /// The non-empty sets by where they start.
 fn in_file_order(directory: &Answer) -> Vec<usize> {
-    let entries = 0..directory.words[3] as usize;
+    let entries = 0..directory.words[ENTRIES_WORD] as usize;
     let filled = entries.filter(|&entry| entry_words(directory, entry)[2] > 0);
     let mut order: Vec<usize> = filled.collect();
     order.sort_by_key(|&entry| entry_words(directory, entry)[1]);

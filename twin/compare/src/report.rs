@@ -50,7 +50,7 @@ pub(crate) fn report(asked: &Asked, rooms: &Answer, expected: Option<&Answer>) -
 }
 
 /// Where a product comes from and the file it is written to.
-pub(crate) fn report_of_product(origin: &str, product: &[u8]) -> String {
+pub fn report_of_product(origin: &str, product: &[u8]) -> String {
     format!("  product:  {origin}, {} bytes\n  kept in:  {}\n", product.len(), keep(product))
 }
 

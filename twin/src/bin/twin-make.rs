@@ -1,39 +1,32 @@
 //! Writes a product to standard output: a named one, or the one at an index of a seed's random products.
 //! Without a name it writes the names.
 
-use std::io::{self, Write};
 use std::process::ExitCode;
 
 use twin::builder::{named_product, Generator, CATALOGUE_NAMES, NAMED_PRODUCTS};
+use twin::output;
 
-/// The product of `good:SEED:INDEX`, `damaged:SEED:INDEX` or `any:SEED:INDEX`; each index has its own seed.
+/// The product of `SORT:SEED:INDEX`; each index has its own seed.
 fn random_product(name: &str) -> Option<Vec<u8>> {
     let mut parts = name.split(':');
     let sort = parts.next()?;
     let mut generator = Generator::at(parts.next()?.parse().ok()?, parts.next()?.parse().ok()?);
-    match sort {
-        "good" => Some(generator.good()),
-        "damaged" => Some(generator.damaged()),
-        "any" => Some(generator.any()),
-        _ => None,
-    }
+    generator.of_sort(sort)
+}
+
+/// A line for each name.
+fn names() -> Vec<u8> {
+    let named = NAMED_PRODUCTS.iter().map(|named| named.name);
+    let names = named.chain(CATALOGUE_NAMES).chain(["wrapping-states"]);
+    names.flat_map(|name| [name, "\n"].concat().into_bytes()).collect()
+}
+
+fn make(name: Option<String>) -> Result<(), String> {
+    let Some(name) = name else { return output::write(&names()) };
+    let product = named_product(&name).or_else(|| random_product(&name));
+    output::write(&product.ok_or(format!("no product is named {name}"))?)
 }
 
 fn main() -> ExitCode {
-    let Some(name) = std::env::args().nth(1) else {
-        NAMED_PRODUCTS.iter().for_each(|named| println!("{}", named.name));
-        CATALOGUE_NAMES.iter().for_each(|name| println!("{name}"));
-        println!("wrapping-states");
-        return ExitCode::SUCCESS;
-    };
-    match named_product(&name).or_else(|| random_product(&name)) {
-        Some(product) => match io::stdout().lock().write_all(&product) {
-            Ok(()) => ExitCode::SUCCESS,
-            Err(_) => ExitCode::FAILURE,
-        },
-        None => {
-            eprintln!("no product is named {name}");
-            ExitCode::FAILURE
-        }
-    }
+    output::end("twin-make", make(std::env::args().nth(1)))
 }

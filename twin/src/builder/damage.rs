@@ -1,21 +1,28 @@
 //! Damaged products at random: a good description is changed with a rule in mind, or bytes are.
 
-use super::description::{Description, EntryDescription, Number};
+use std::ops::Range;
+
+use super::description::{Description, EntryDescription, Number, StateDescription};
 use super::generator::{Generator, VARIABLE_NAMES};
 
 impl Generator {
     /// A product damaged once or twice, most often one that is refused.
     pub fn damaged(&mut self) -> Vec<u8> {
-        let mut description = self.good_description();
+        let description = self.good_description();
+        self.damage(description)
+    }
+
+    /// The product of a good description, damaged once or twice.
+    pub(super) fn damage(&mut self, mut description: Description) -> Vec<u8> {
         let aims = [self.aim(), self.aim()];
         let aims = if self.once_in(3) { &aims[..] } else { &aims[..1] };
         for &aim in aims {
             self.damage_description(&mut description, aim);
         }
-        let lines_end = description.lines_end();
+        let descriptors = description.lines_end()..description.headers_end();
         let mut product = description.build();
         for &aim in aims {
-            self.damage_bytes(&mut product, lines_end, aim);
+            self.damage_bytes(&mut product, descriptors.clone(), aim);
         }
         product
     }
@@ -57,25 +64,28 @@ impl Generator {
         }
     }
 
-    fn damage_bytes(&mut self, product: &mut Vec<u8>, lines_end: usize, aim: u8) {
-        let (start, end) = match aim {
+    fn damage_bytes(&mut self, product: &mut Vec<u8>, descriptors: Range<usize>, aim: u8) {
+        let part = match aim {
             1 => {
                 product.truncate(self.index(1300));
                 return;
             }
-            0 => (0, product.len()),
-            3 => (0, 1247),
-            8 if product.len() > lines_end => (lines_end, product.len()),
+            0 => 0..product.len(),
+            3 => 0..1247,
+            8 => descriptors,
             _ => return,
         };
-        if start < end && end <= product.len() {
-            let place = start + self.index((end - start).min(3000));
-            product[place] = match self.below(3) {
-                0 => self.next_number() as u8,
-                1 => self.choose(b" \n\"0+-=A."),
-                _ => product[place].wrapping_add(1),
-            };
+        let length = part.end.min(product.len()).saturating_sub(part.start);
+        if length == 0 {
+            return;
         }
+        let near = self.once_in(2);
+        let place = part.start + self.index(if near { length.min(3000) } else { length });
+        product[place] = match self.below(3) {
+            0 => self.next_number() as u8,
+            1 => self.choose(b" \n\"0+-=A."),
+            _ => product[place].wrapping_add(1),
+        };
     }
 
     fn too_large(&mut self) -> Number {
@@ -212,13 +222,14 @@ impl Generator {
         }
     }
 
-    /// The entry of the states; STATES and a set of each kind are put in if there is none.
+    /// The entry of the states; STATES and a variable set are put in if there is none.
     fn states<'a>(&mut self, description: &'a mut Description) -> &'a mut EntryDescription {
         let is_states = |entry: &EntryDescription| entry.name == b"STATES" && entry.set_type == b'A';
         if !description.entries.iter().any(is_states) {
-            let name = self.choose(&VARIABLE_NAMES);
-            description.entries.push(EntryDescription::records(b'A', "STATES", 2, 1387));
-            description.entries.push(EntryDescription::variable(name, 2, 9));
+            let kind = self.index(VARIABLE_NAMES.len());
+            let list = [4, 5].map(|length| StateDescription::new(0, kind as u8 + 1, 1, length));
+            description.entries.push(EntryDescription::states(&list));
+            description.entries.push(EntryDescription::variable(VARIABLE_NAMES[kind], 2, 9));
             let order: Vec<usize> = (0..description.entries.len()).collect();
             description.place_in_order(&order);
         }
@@ -251,12 +262,13 @@ impl Generator {
     }
 
     fn damage_counts(&mut self, description: &mut Description) {
-        let (which, byte) = (self.below(4), self.below(4) as u8);
+        let (which, byte, draw) = (self.below(4), self.below(4) as u8, self.next_number());
         let entry = self.states(description);
+        let record = draw as usize % (entry.data.len() / 1387) * 1387;
         match which {
-            0 => entry.data[1382] = byte,
-            1 => entry.data[1386] = 1 + byte,
-            2 => entry.data[12] = 1,
+            0 => entry.data[record + 1382] = byte,
+            1 => entry.data[record + 1386] = 1 + byte,
+            2 => entry.data[record + 12] = 1,
             _ => {
                 let variable =
                     |entry: &&mut EntryDescription| entry.record_size == Some(Number::from(-1));

@@ -47,6 +47,18 @@ const NAMES: [&str; 9] = [
     "ABCDEFGHIJKLMNOPQRSTUVWXYZ_0",
 ];
 
+/// Angles in 10^-6 degree at the limits of latitude and longitude, and one past them.
+const EDGES_OF_ANGLES: [i32; 8] = [
+    90_000_000,
+    -90_000_000,
+    90_000_001,
+    -90_000_001,
+    180_000_000,
+    -180_000_000,
+    180_000_001,
+    -180_000_001,
+];
+
 pub(super) const VARIABLE_NAMES: [&str; 4] = ["NADIR", "LIMB", "OCCULTATION", "MONITORING"];
 
 /// A source of pseudo-random numbers (xorshift) and of products made with them.
@@ -110,15 +122,34 @@ impl Generator {
         (0..length).map(|_| self.text_byte()).collect()
     }
 
-    fn bytes(&mut self, length: usize) -> Vec<u8> {
+    pub(super) fn bytes(&mut self, length: usize) -> Vec<u8> {
         (0..length).map(|_| self.next_number() as u8).collect()
+    }
+
+    /// A whole number from minus the limit to the limit.
+    pub fn within(&mut self, limit: u32) -> i32 {
+        (self.below(2 * u64::from(limit) + 1) as i64 - i64::from(limit)) as i32
+    }
+
+    /// Big-endian words, most of them latitudes in range, the others longitudes or at an edge of either.
+    fn angles(&mut self, length: usize) -> Vec<u8> {
+        let mut bytes = self.bytes(length);
+        for word in bytes.chunks_exact_mut(4) {
+            let angle = match self.below(8) {
+                0 => self.choose(&EDGES_OF_ANGLES),
+                1 => self.within(180_000_000),
+                _ => self.within(90_000_000),
+            };
+            word.copy_from_slice(&angle.to_be_bytes());
+        }
+        bytes
     }
 
     fn zero(&mut self) -> Number {
         Number { minus: self.once_in(3), magnitude: 0 }
     }
 
-    fn describe_header(&mut self, description: &mut Description) {
+    pub(super) fn describe_header(&mut self, description: &mut Description) {
         for keyword in TEXT_KEYWORDS {
             let length = self.index(70);
             description.header.push((keyword, Setting::Text(self.text(length))));
@@ -139,31 +170,34 @@ impl Generator {
     }
 
     /// A good SPH line with its byte 10.
-    fn sph_line(&mut self) -> Vec<u8> {
-        let mut line = Vec::new();
+    pub(super) fn sph_line(&mut self) -> Vec<u8> {
         if self.once_in(4) {
-            line = vec![b' '; 1 + self.index(50)];
+            return blank_line(2 + self.index(50));
+        }
+        let (keyword, value) = (1 + self.index(12), self.index(40));
+        self.named_line(keyword, value)
+    }
+
+    /// A line of a keyword and a value: a q of this length, or text of one byte more.
+    pub(super) fn named_line(&mut self, keyword: usize, value: usize) -> Vec<u8> {
+        let mut line = vec![b'A' + self.below(26) as u8];
+        for _ in 1..keyword {
+            line.push(self.choose(b"ABCXYZ0189_"));
+        }
+        line.push(b'=');
+        if self.once_in(2) {
+            line.push(b'"');
+            line.extend(self.text(value));
+            line.push(b'"');
         } else {
-            line.push(b'A' + self.below(26) as u8);
-            for _ in 0..self.index(12) {
-                line.push(self.choose(b"ABCXYZ0189_"));
-            }
-            line.push(b'=');
-            let length = self.index(40);
-            if self.once_in(2) {
-                line.push(b'"');
-                line.extend(self.text(length));
-                line.push(b'"');
-            } else {
-                line.extend(self.text(length + 1));
-            }
+            line.extend(self.text(value + 1));
         }
         line.push(b'\n');
         line
     }
 
     /// A spare, an R entry, an empty set or a set of equal records.
-    fn plain_entry(&mut self) -> EntryDescription {
+    pub(super) fn plain_entry(&mut self) -> EntryDescription {
         let mut name = self.choose(&NAMES);
         let set_type = self.choose(b"MAG");
         if set_type != b'A' && self.once_in(8) {
@@ -173,15 +207,25 @@ impl Generator {
             0 => return EntryDescription::spare(),
             1 => self.empty_entry(b'R', name),
             2 => self.empty_entry(set_type, name),
-            _ => {
-                let (count, record_size) = (1 + self.index(4), 1 + self.index(30));
-                let mut entry = EntryDescription::records(set_type, name, count, record_size);
-                entry.data = self.bytes(count * record_size);
-                entry
-            }
+            3 | 4 => self.records(set_type, name, 12, Generator::angles),
+            _ => self.records(set_type, name, 1, Generator::bytes),
         };
         let length = self.index(63);
         entry.filename = self.text(length);
+        entry
+    }
+
+    /// A set of up to four equal records, no shorter than this, of the bytes that are made for each.
+    fn records(
+        &mut self,
+        set_type: u8,
+        name: &str,
+        least: usize,
+        record: fn(&mut Generator, usize) -> Vec<u8>,
+    ) -> EntryDescription {
+        let (count, record_size) = (1 + self.index(4), least + self.index(30));
+        let mut entry = EntryDescription::records(set_type, name, count, record_size);
+        entry.data = (0..count).flat_map(|_| record(self, record_size)).collect();
         entry
     }
 
@@ -212,7 +256,7 @@ impl Generator {
     }
 
     /// STATES and the variable sets of every kind it attaches records of; none if it attaches none.
-    fn variable_entries(&mut self) -> Vec<EntryDescription> {
+    pub(super) fn variable_entries(&mut self) -> Vec<EntryDescription> {
         let list: Vec<StateDescription> = (0..1 + self.index(3)).map(|_| self.state()).collect();
         let mut entries = vec![EntryDescription::states(&list)];
         for (kind, name) in (1..).zip(VARIABLE_NAMES) {
@@ -226,33 +270,11 @@ impl Generator {
         }
         entries
     }
+}
 
-    /// The description of a product that is accepted.
-    pub fn good_description(&mut self) -> Description {
-        let mut description = Description::default();
-        if self.once_in(2) {
-            self.describe_header(&mut description);
-        }
-        for _ in 0..self.index(5) {
-            let line = self.sph_line();
-            description.sph_lines.extend(line);
-        }
-        description.entries = (0..self.index(6)).map(|_| self.plain_entry()).collect();
-        if self.once_in(3) {
-            let variable = self.variable_entries();
-            description.entries.extend(variable);
-        }
-        self.shuffle(&mut description.entries);
-        let mut order: Vec<usize> = (0..description.entries.len()).collect();
-        if self.once_in(2) {
-            self.shuffle(&mut order);
-        }
-        description.place_in_order(&order);
-        description
-    }
-
-    /// A product that is accepted.
-    pub fn good(&mut self) -> Vec<u8> {
-        self.good_description().build()
-    }
+/// A line of blanks, of this length with its byte 10.
+pub(super) fn blank_line(length: usize) -> Vec<u8> {
+    let mut line = vec![b' '; length - 1];
+    line.push(b'\n');
+    line
 }

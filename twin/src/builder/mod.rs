@@ -8,6 +8,7 @@ mod generator;
 mod header_text;
 mod named;
 mod product;
+mod shapes;
 
 pub use catalogue::CATALOGUE_NAMES;
 pub use description::{state_record, Description, EntryDescription, Number, Setting, StateDescription};

@@ -1,4 +1,4 @@
-//! What the tests share: short forms of verdicts and requests, and the seed.
+//! What the tests share: short forms of verdicts and requests.
 
 use twin::builder::{Description, EntryDescription, Number, Request};
 use twin::{field, judge, point, record_place, Refusal, Verdict};
@@ -46,11 +46,4 @@ pub fn answer(product: &[u8], request: Request) -> Verdict {
         }
     };
     refused.map_or(Verdict::Accepted, Verdict::from)
-}
-
-/// The seed of the random tests: TWIN_SEED, or a fixed one.
-pub fn seed() -> u64 {
-    let seed = std::env::var("TWIN_SEED").ok().and_then(|text| text.parse().ok()).unwrap_or(20_070_627);
-    println!("seed {seed} (set TWIN_SEED for another)");
-    seed
 }

@@ -1,6 +1,6 @@
 //! The listing.
 
-use twin::builder::named_product;
+use twin::builder::{named_product, Generator};
 use twin::listing;
 
 fn listed(name: &str) -> String {
@@ -47,4 +47,13 @@ fn the_limit_is_65536_bytes() {
     assert_eq!(listed("listed-no-more"), "longer than 65536\n");
     assert_eq!(listing(&[0; 65_537]), b"longer than 65536\n");
     assert_eq!(listing(&[0; 65_536]), b"refused 3 0 128\n");
+}
+
+/// `size`, 128 lines with a name of 28 bytes, an offset of 19 digits and a record size of 10, and `accepted`.
+#[test]
+fn the_longest_listing_has_9638_bytes() {
+    let listed = listing(&Generator::new(1).longest_listing());
+    assert_eq!(listed.len(), 9638);
+    assert_eq!(listed.iter().filter(|&&byte| byte == b'\n').count(), 130);
+    assert!(listed.ends_with(b"accepted\n"));
 }

@@ -1,8 +1,9 @@
 //! Random products: good ones are accepted and their parts join to the product, damaged ones reach every
 //! refusal, and every call agrees with the verdict.
 
-use crate::common::{refusal, seed, NONE};
+use crate::common::{refusal, NONE};
 use twin::builder::Generator;
+use twin::settings::seed;
 use twin::{
     directory, field, header_values, judge, listing, point, record_part, record_place, sph_part,
     sph_place, Refusal, Verdict,
@@ -35,7 +36,7 @@ fn joined(product: &[u8]) -> Vec<u8> {
 #[test]
 fn good_products_are_accepted_and_join_to_themselves() {
     let mut generator = Generator::new(seed());
-    let (mut small, mut variable) = (0, 0);
+    let (mut small, mut variable, mut of_128_entries, mut of_longest_sph) = (0, 0, 0, 0);
     for _ in 0..20_000 {
         let product = generator.good();
         assert_eq!(judge(&product), Verdict::Accepted, "{}", product.escape_ascii());
@@ -44,8 +45,45 @@ fn good_products_are_accepted_and_join_to_themselves() {
         let listed = directory(&product).unwrap();
         let is_variable = |entry: usize| listed.sizes[entry] > 0 && listed.record_sizes[entry] == -1;
         variable += usize::from((0..128).any(is_variable));
+        of_128_entries += usize::from(listed.entry_count == 128);
+        of_longest_sph += usize::from(header_values(&product).unwrap().sph_size == 49_152);
     }
     assert!(small > 15_000 && variable > 3000, "{small} {variable}");
+    assert!(of_128_entries > 20 && of_longest_sph > 20, "{of_128_entries} {of_longest_sph}");
+}
+
+/// Products made to a length are accepted, and few or many entries and short or long lines are among them.
+#[test]
+fn good_products_have_the_length_asked() {
+    let mut generator = Generator::new(seed());
+    let (mut most_entries, mut longest_sph) = (0, 0);
+    for index in 0..300 {
+        let length = [65_535, 65_536, 65_537, 70_001, 20_000][index % 5];
+        let product = generator.of_sort(&format!("good-{length}")).unwrap();
+        assert_eq!(product.len(), length);
+        assert_eq!(judge(&product), Verdict::Accepted, "{}", product.escape_ascii());
+        most_entries = directory(&product).unwrap().entry_count.max(most_entries);
+        longest_sph = header_values(&product).unwrap().sph_size.max(longest_sph);
+    }
+    assert_eq!((most_entries, longest_sph), (128, 49_152));
+    assert_eq!(generator.of_sort("good-1527"), None);
+}
+
+/// Records of angles are there, so that points are answered and not only refused.
+#[test]
+fn points_of_good_products_are_answered() {
+    let mut generator = Generator::new(seed());
+    let (mut answered, mut refused_by_21) = (0, 0);
+    for _ in 0..5000 {
+        let product = generator.good();
+        for entry in 0..directory(&product).unwrap().entry_count {
+            match point(&product, entry, 0, 0, 4, 8) {
+                Ok(_) => answered += 1,
+                Err(Refusal { number, .. }) => refused_by_21 += usize::from(number == 21),
+            }
+        }
+    }
+    assert!(answered > 2000 && refused_by_21 > 1000, "{answered} {refused_by_21}");
 }
 
 #[test]

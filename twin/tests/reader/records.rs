@@ -193,7 +193,7 @@ fn is_within(result: f64, value: i64, scale: i128, exponent: i32) -> bool {
 
 #[test]
 fn points_stay_within_the_bounds() {
-    let mut generator = twin::builder::Generator::new(crate::common::seed());
+    let mut generator = twin::builder::Generator::new(twin::settings::seed());
     for round in 0..20_000 {
         let latitude = generator.below(180_000_001) as i32 - 90_000_000;
         let longitude = generator.below(360_000_001) as i32 - 180_000_000;

@@ -1,9 +1,10 @@
 //! Rules 1 to 16 once more, each as document 01 words it, byte by byte and without care for speed, and
 //! compared with the reader on random products.
 
-use crate::common::{refused, seed, NONE};
+use crate::common::{refused, NONE};
 use crate::{descriptors, header_text, sets, sph_lines};
 use twin::builder::{named_product, Generator, NAMED_PRODUCTS};
+use twin::settings::seed;
 use twin::{judge, Verdict};
 
 const LARGEST: i128 = i64::MAX as i128;

@@ -1,7 +1,8 @@
 //! Rules 12 to 14: corners, and a count byte by byte on crowded products.
 
-use crate::common::{demo, number, refused, seed, verdict_on, verdict_on_demo, NONE};
+use crate::common::{demo, number, refused, verdict_on, verdict_on_demo, NONE};
 use twin::builder::{Description, EntryDescription, Generator, Number};
+use twin::settings::seed;
 use twin::{judge, Verdict};
 
 #[test]

@@ -141,7 +141,7 @@ pub fn first_bad_line(lines: &[u8]) -> Option<usize> {
 
 #[test]
 fn random_lines_agree_with_the_grammar() {
-    let mut generator = Generator::new(crate::common::seed());
+    let mut generator = Generator::new(twin::settings::seed());
     let (mut good, mut bad) = (0, 0);
     for _ in 0..60_000 {
         let length = generator.index(14);

@@ -105,6 +105,13 @@ fn the_text_shows_every_record_of_unequal_length() {
 }
 
 #[test]
+fn the_text_of_a_product_too_long_to_list_says_so() {
+    let text = |name| String::from_utf8(vectors(name, &named_product(name).unwrap())).unwrap();
+    assert_eq!(text("listed-no-more"), "product listed-no-more\nlonger than 65536\n");
+    assert!(text("listed-last").starts_with("product listed-last\njudge 14 1247 128\n"));
+}
+
+#[test]
 fn every_line_of_words_has_its_length() {
     for (word, numbers) in lines_of_numbers() {
         let length = match word.as_str() {

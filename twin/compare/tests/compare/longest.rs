@@ -1,21 +1,34 @@
-//! Products of 2^31 - 1 bytes, the longest, and one byte more; all but their headers is memory never written.
+//! Products of 2^31 - 1 bytes, the longest, and longer ones, past 2^32 too; all but their headers is memory never
+//! written.
 
 use compare::{Comparer, Lengths, Mapping};
 use twin::builder::{Description, EntryDescription, Number, StateDescription};
 use twin::words::{Answer, Call};
 
-use crate::common::choices;
+use crate::common::{choices, product};
 
 const LONGEST: usize = 2_147_483_647;
 
-/// The first bytes of a longest product: its last set reaches to its end, with these records.
-fn beginning(mut description: Description, count: usize, record_size: i128) -> Vec<u8> {
-    description.set_number("TOT_SIZE", LONGEST as i128);
+/// Lengths past the longest: next to it, and those that are none, good or negative where a reader keeps only
+/// 32 bits of them.
+const TOO_LONG: [usize; 7] = [
+    LONGEST + 1,
+    LONGEST + 2,
+    LONGEST + 1543,
+    (1 << 32) - 1,
+    1 << 32,
+    (1 << 32) + 1247,
+    (1 << 32) + 1542,
+];
+
+/// The first bytes of a product of a length: its last set reaches to its end, with these records.
+fn beginning(mut description: Description, length: usize, count: usize, record_size: i128) -> Vec<u8> {
+    description.set_number("TOT_SIZE", length as i128);
     let sets: usize = description.entries.iter().map(|entry| entry.data.len()).sum();
     let start = description.headers_end() + sets;
     let last = description.entries.last_mut().expect("an entry");
     last.offset = Some(Number::from(start as i128));
-    last.size = Some(Number::from((LONGEST - start) as i128));
+    last.size = Some(Number::from((length - start) as i128));
     last.count = Some(Number::from(count as i128));
     last.record_size = Some(Number::from(record_size));
     description.build()
@@ -25,7 +38,7 @@ fn beginning(mut description: Description, count: usize, record_size: i128) -> V
 fn filled_evenly(count: usize) -> Mapping {
     let record_size = (LONGEST - 1527) / count;
     let entry = EntryDescription::new(b'G', "DEMO", Vec::new());
-    let bytes = beginning(Description::new(vec![entry]), count, record_size as i128);
+    let bytes = beginning(Description::new(vec![entry]), LONGEST, count, record_size as i128);
     Mapping::beginning_with(&bytes, LONGEST)
 }
 
@@ -41,6 +54,36 @@ fn the_longest_length_is_judged_and_one_more_refused() {
         let mut comparer = Comparer::of(format!("{length} zeros"));
         assert_eq!(comparer.compare(mapping.bytes(), Call::Judge).words, verdict);
         comparer.compare_some(mapping.bytes(), 1, &mut choices());
+    }
+}
+
+/// A header that is good but for the length: of a short product, of one without sets, and of one whose set
+/// reaches to its end.
+fn good_beginnings(length: usize) -> [(&'static str, Vec<u8>); 4] {
+    let mut alone = Description::default();
+    alone.set_number("TOT_SIZE", length as i128);
+    let entry = EntryDescription::new(b'M', "NADIR", Vec::new());
+    let filled = beginning(Description::new(vec![entry]), length, 1, -1);
+    [
+        ("case-a", product("case-a")),
+        ("case-b", product("case-b")),
+        ("a main header", alone.build()),
+        ("a header and a set", filled),
+    ]
+}
+
+#[test]
+fn longer_products_are_refused_with_a_good_header_too() {
+    for length in TOO_LONG {
+        for (name, bytes) in good_beginnings(length) {
+            let mapping = Mapping::beginning_with(&bytes, length);
+            let mut comparer = Comparer::of(format_args!("{name}, then zeros to {length} bytes"));
+            let verdict = comparer.compare(mapping.bytes(), Call::Judge);
+            assert_eq!(verdict.words, [2, 0, 128], "{name}, {length} bytes");
+            comparer.compare_some(mapping.bytes(), 1, &mut choices());
+            let answers = &comparer.met().answers;
+            assert_eq!(answers[2], answers.iter().sum(), "{name}, {length} bytes: {answers:?}");
+        }
     }
 }
 
@@ -103,7 +146,7 @@ fn unequal_records_reach_the_end() {
     let list = [StateDescription::new(0, 1, u16::MAX, 32_767), StateDescription::new(0, 1, 1, rest)];
     let nadir = EntryDescription::new(b'M', "NADIR", Vec::new());
     let description = Description::new(vec![EntryDescription::states(&list), nadir]);
-    let mapping = Mapping::beginning_with(&beginning(description, 65_536, -1), LONGEST);
+    let mapping = Mapping::beginning_with(&beginning(description, LONGEST, 65_536, -1), LONGEST);
     let mut comparer = Comparer::of("unequal records to the longest length");
     assert_eq!(comparer.compare(mapping.bytes(), Call::Judge).words, [0, 0, 0]);
     comparer.compare_some(mapping.bytes(), 2, &mut choices());

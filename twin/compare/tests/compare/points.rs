@@ -75,8 +75,7 @@ fn quotients_are_rounded_alike() {
     for _ in 0..200 {
         let mut record = Vec::new();
         for limit in [90_000_000, 180_000_000].into_iter().cycle().take(200) {
-            let number = generator.below(2 * limit + 1) as i64 - limit as i64;
-            record.extend((number as i32).to_be_bytes());
+            record.extend(generator.within(limit).to_be_bytes());
         }
         record.extend((0..100).flat_map(|_| (generator.next_number() as u32).to_be_bytes()));
         let product = one_record(record);

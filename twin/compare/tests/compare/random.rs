@@ -1,65 +1,46 @@
 //! Random products, good and damaged: every public call on each, every record of the accepted ones.
 
-use compare::Comparer;
+use compare::{shared_out, Comparer, Met};
 use twin::builder::Generator;
-use twin::{judge, Verdict};
+use twin::settings::{number, seed};
 
-const THREADS: u64 = 2;
-
-/// A number that the environment sets, or its default.
-fn setting(name: &str, default: u64) -> u64 {
-    std::env::var(name).ok().and_then(|text| text.parse().ok()).unwrap_or(default)
-}
-
-/// How many products are compared: TWIN_PRODUCTS, or 300,000.
-fn products() -> u64 {
-    setting("TWIN_PRODUCTS", 300_000)
-}
-
-/// The seed: TWIN_SEED, or a fixed one.
-fn seed() -> u64 {
-    let seed = setting("TWIN_SEED", 20_070_627);
-    println!("seed {seed} (set TWIN_SEED for another)");
-    seed
-}
-
-/// What was met: accepted products, then those refused by 1 to 16.
-type Met = [u64; 17];
-
-/// Compares one thread's share of the products.
-fn compare_share(seed: u64, products: u64, first: u64) -> (Met, usize) {
-    let mut met = [0; 17];
+/// Compares one share of the products.
+fn compare_share(seed: u64, indices: &mut dyn Iterator<Item = u64>) -> (Met, usize) {
     let mut comparer = Comparer::default();
-    for index in (first..products).step_by(THREADS as usize) {
+    for index in indices {
         let mut generator = Generator::at(seed, index);
         let product = generator.any();
         comparer.set_origin(format_args!("twin-make any:{seed}:{index}"));
-        comparer.compare_all(&product, &mut generator);
-        match judge(&product) {
-            Verdict::Accepted => met[0] += 1,
-            Verdict::Refused { number, .. } => met[usize::from(number)] += 1,
-        }
+        comparer.compare_most(&product, &mut generator);
     }
-    (met, comparer.asked())
+    (comparer.met().clone(), comparer.asked())
+}
+
+/// So many products and more have every shape among them; fewer may miss one by chance.
+const ENOUGH: u64 = 20_000;
+
+/// The floors lie far above none, and well below what is seen in products of any seed.
+fn assert_met(met: &Met, products: u64) {
+    let seen = format!("of {products} products {met:?}");
+    for number in (0..=16).filter(|&number| number != 2) {
+        assert!(met.verdicts[number] >= products / 300, "verdict {number}: {seen}");
+    }
+    for number in 17..=21 {
+        assert!(met.answers[number] >= products / 10, "refusal {number}: {seen}");
+    }
+    assert!(met.points_answered >= products / 20, "points answered: {seen}");
+    if products >= ENOUGH {
+        assert_eq!(met.most_entries, 128, "the most entries: {seen}");
+        assert!(met.longest_sph >= 40_000, "the longest SPH: {seen}");
+    }
 }
 
 #[test]
 fn random_products_are_answered_alike() {
-    let (seed, products) = (seed(), products());
-    let shares = std::thread::scope(|scope| {
-        let threads: Vec<_> = (0..THREADS)
-            .map(|first| scope.spawn(move || compare_share(seed, products, first)))
-            .collect();
-        threads.into_iter().map(|thread| thread.join()).collect::<Vec<_>>()
-    });
-    let (mut met, mut asked) = ([0; 17], 0);
-    for share in shares {
-        let share = share.expect("the report stands above");
-        asked += share.1;
-        met.iter_mut().zip(share.0).for_each(|(sum, number)| *sum += number);
-    }
-    println!("{products} products, {asked} calls; accepted, then refused by 1 to 16: {met:?}");
-    for number in (0..=16).filter(|&number| number != 2) {
-        assert!(met[number] > products / 300, "{number} {met:?}");
-    }
+    let (seed, products) = (seed(), number("TWIN_PRODUCTS", 300_000));
+    let shares = shared_out(products, |indices| compare_share(seed, indices));
+    let asked: usize = shares.iter().map(|share| share.1).sum();
+    let met = shares.iter().fold(Met::default(), |met, share| met.and(&share.0));
+    println!("{products} products, {asked} calls; {met:?}");
+    assert_met(&met, products);
 }
