@@ -1,12 +1,12 @@
--- `vectors::put_words` keeps to its room: the loop's invariant bounds how far the line has come.
+-- `vectors::printing::put_words` keeps to its room: the loop's invariant bounds how far the line has come.
 -- Assumes nothing.
 use Prim.Native.Nat.{_+_, _*_, _-_, _≤_}
 use mathlib.Core.Path.{_≡_, refl}
 use native.Mathlib.Omega.{arith}
 use lib.ListN.{length}
 use lib.Seq.{length-sets}
-use Rattle.vectors.proofs.put_words.Statement.{statement}
-use Rattle.vectors.proofs.put_words.Tie as tie
+use Rattle.vectors.proofs.printing.put_words.Statement.{statement}
+use Rattle.vectors.proofs.printing.put_words.Tie as tie
 
 abbrev Inv-loop : tie.InvT-loop
 Inv-loop out₀ at words next₀ i₀ out next i = (i ≤ length words) × ((at ≤ next) × ((next ≤ at + 21 * i) × (length out ≡ length out₀)))

@@ -1,12 +1,12 @@
--- `vectors::bits_of` is safe and ends.
+-- `vectors::records::bits_of` is safe and ends.
 -- Assumes nothing.
 use mathlib.Core.Bool.{Bool, true, not}
 use mathlib.Core.Path.{_≡_, sym, subst}
 use lib.Dec.{T}
 use lib.Ieee.{Float, nan, inf, fin, eq, isNan}
 use borrow.Author.Needs.{needs}
-use Rattle.vectors.proofs.bits_of.Statement.{statement}
-use Rattle.vectors.proofs.bits_of.Tie as tie
+use Rattle.vectors.proofs.records.bits_of.Statement.{statement}
+use Rattle.vectors.proofs.records.bits_of.Tie as tie
 
 -- what equals itself is no NaN
 number : (x : Float) → eq x x ≡ true → T (not (isNan x))

@@ -1,12 +1,12 @@
--- `vectors::print_words` is safe and ends.
+-- `vectors::printing::print_words` is safe and ends.
 -- Assumes nothing.
 use mathlib.Core.Path.{sym}
 use native.Mathlib.Omega.{arith}
 use lib.ListN.{length-set}
 use lib.Seq.{length-take-le}
 use borrow.Author.Needs.{needs}
-use Rattle.vectors.proofs.print_words.Statement.{statement}
-use Rattle.vectors.proofs.print_words.Tie as tie
+use Rattle.vectors.proofs.printing.print_words.Statement.{statement}
+use Rattle.vectors.proofs.printing.print_words.Tie as tie
 
 slice-aggregate-put-text : tie.Need-slice-aggregate-put-text
 slice-aggregate-put-text c = search needs

@@ -1,9 +1,9 @@
--- `vectors::show_fields` is safe and ends.
+-- `vectors::records::show_fields` is safe and ends.
 -- Assumes nothing.
 use Prim.Native.Nat.{_-_, _≤_}
 use native.Mathlib.Omega.{arith}
-use Rattle.vectors.proofs.show_fields.Statement.{statement}
-use Rattle.vectors.proofs.show_fields.Tie as tie
+use Rattle.vectors.proofs.records.show_fields.Statement.{statement}
+use Rattle.vectors.proofs.records.show_fields.Tie as tie
 
 abbrev Inv-loop : tie.InvT-loop
 Inv-loop p entry asked kind₀ kind = kind ≤ 11

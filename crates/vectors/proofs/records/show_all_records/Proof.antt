@@ -1,10 +1,10 @@
--- `vectors::show_all_records` is safe and ends.
+-- `vectors::records::show_all_records` is safe and ends.
 -- Assumes nothing.
 use Prim.Native.Nat.{_-_, _≤_}
 use native.Mathlib.Omega.{arith}
 use borrow.Author.Needs.{needs}
-use Rattle.vectors.proofs.show_all_records.Statement.{statement}
-use Rattle.vectors.proofs.show_all_records.Tie as tie
+use Rattle.vectors.proofs.records.show_all_records.Statement.{statement}
+use Rattle.vectors.proofs.records.show_all_records.Tie as tie
 
 abbrev Inv-loop : tie.InvT-loop
 Inv-loop p directory entries entry₀ entry = entry ≤ 128

@@ -1,9 +1,9 @@
--- `vectors::show_entries` is safe and ends.
+-- `vectors::entries::show_entries` is safe and ends.
 -- Assumes nothing.
 use Prim.Native.Nat.{_-_, _≤_}
 use native.Mathlib.Omega.{arith}
-use Rattle.vectors.proofs.show_entries.Statement.{statement}
-use Rattle.vectors.proofs.show_entries.Tie as tie
+use Rattle.vectors.proofs.entries.show_entries.Statement.{statement}
+use Rattle.vectors.proofs.entries.show_entries.Tie as tie
 
 abbrev Inv-loop : tie.InvT-loop
 Inv-loop words texts i₀ i = i ≤ 128

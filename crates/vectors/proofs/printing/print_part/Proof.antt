@@ -1,11 +1,11 @@
--- `vectors::print_part` is safe and ends.
+-- `vectors::printing::print_part` is safe and ends.
 -- Assumes nothing.
 use mathlib.Core.Path.{sym}
 use native.Mathlib.Omega.{arith}
 use lib.Seq.{length-sets, length-take-le}
 use borrow.Author.Needs.{needs}
-use Rattle.vectors.proofs.print_part.Statement.{statement}
-use Rattle.vectors.proofs.print_part.Tie as tie
+use Rattle.vectors.proofs.printing.print_part.Statement.{statement}
+use Rattle.vectors.proofs.printing.print_part.Tie as tie
 
 array-write-line : tie.Need-array-write-line
 array-write-line c = search needs
