@@ -1,4 +1,4 @@
-// Lines of standard output.
+// Lines of standard output. Each function answers whether its line was written.
 ghost use mathlib.Core.Path.{_≡_};
 ghost use Prim.Native.Nat.{_+_, _*_, _≤_};
 ghost use lib.ListN.{length};
@@ -21,7 +21,7 @@ fn put_words(out: &mut [u8], at: usize, words: &[u64]) -> usize
 }
 
 // A line of a call's name, what is asked and what is answered. The blank behind the last number makes way for the line's end.
-pub fn print_words(name: &[u8], asked: &[u64], words: &[u64])
+pub fn print_words(name: &[u8], asked: &[u64], words: &[u64]) -> bool
     requires { ⌜ ((1 ≤ length (now name)) × (length (now name) ≤ 64)) × ((length (now asked) ≤ 6) × (length (now words) ≤ 25)) ⌝ }
 {
     let mut out = [0u8; 1024];
@@ -29,22 +29,22 @@ pub fn print_words(name: &[u8], asked: &[u64], words: &[u64])
     let begun = put_words(&mut out, named, asked);
     let ended = put_words(&mut out, begun, words);
     out[ended - 1] = b'\n';
-    io::write_all(STDOUT_FILENO, &out[..ended]);
+    io::write_all(STDOUT_FILENO, &out[..ended])
 }
 
 // A line of a name and a text as it is.
-pub fn print_text(name: &[u8], text: &[u8])
+pub fn print_text(name: &[u8], text: &[u8]) -> bool
     requires { ⌜ (length (now name) ≤ 64) × (length (now text) ≤ 512) ⌝ }
 {
     let mut out = [0u8; 1024];
     let named = put_text(&mut out, 0, name);
     let shown = put_text(&mut out, named, text);
     let ended = put_text(&mut out, shown, b"\n");
-    io::write_all(STDOUT_FILENO, &out[..ended]);
+    io::write_all(STDOUT_FILENO, &out[..ended])
 }
 
 // The same with a number before the text.
-pub fn print_numbered(name: &[u8], number: u64, text: &[u8])
+pub fn print_numbered(name: &[u8], number: u64, text: &[u8]) -> bool
     requires { ⌜ (length (now name) ≤ 64) × (length (now text) ≤ 512) ⌝ }
 {
     let mut out = [0u8; 1024];
@@ -52,7 +52,7 @@ pub fn print_numbered(name: &[u8], number: u64, text: &[u8])
     let numbered = put_number(&mut out, named, number, b' ');
     let shown = put_text(&mut out, numbered, text);
     let ended = put_text(&mut out, shown, b"\n");
-    io::write_all(STDOUT_FILENO, &out[..ended]);
+    io::write_all(STDOUT_FILENO, &out[..ended])
 }
 
 fn at_most_16(size: u64) -> usize
@@ -62,12 +62,12 @@ fn at_most_16(size: u64) -> usize
 }
 
 // A part's size and at most 16 of its bytes.
-pub fn print_part(name: &[u8], asked: &[u64], size: u64, bytes: &[u8])
+pub fn print_part(name: &[u8], asked: &[u64], size: u64, bytes: &[u8]) -> bool
     requires { ⌜ ((1 ≤ length (now name)) × (length (now name) ≤ 64)) × ((length (now asked) ≤ 6) × (16 ≤ length (now bytes))) ⌝ }
 {
     let mut line = [0u64; 17];
     line[0] = size;
     let shown = at_most_16(size);
     let end = words::put_bytes(&mut line, 1, &bytes[..shown]);
-    print_words(name, asked, &line[..end]);
+    print_words(name, asked, &line[..end])
 }

@@ -2,36 +2,39 @@
 use crate::printing::print_part;
 use crate::printing::print_words;
 
-fn show_record_place(p: &[u8], entry: usize, asked: usize) {
+fn show_record_place(p: &[u8], entry: usize, asked: usize) -> bool {
     let question = [entry as u64, asked as u64];
     let mut place = [0u64; 5];
     ambrothel::ambrothel_record_place(p, entry, asked, &mut place);
-    print_words(b"record_place ", &question, &place);
+    print_words(b"record_place ", &question, &place)
 }
 
-fn show_record_part(p: &[u8], entry: usize, asked: usize) {
+fn show_record_part(p: &[u8], entry: usize, asked: usize) -> bool {
     let question = [entry as u64, asked as u64];
     let mut count = [0u64; 1];
     let mut bytes = [0u8; 65536];
     ambrothel::ambrothel_record_part(p, entry, asked, &mut count, &mut bytes);
-    print_part(b"record_part ", &question, count[0], &bytes);
+    print_part(b"record_part ", &question, count[0], &bytes)
 }
 
 // A field at the offset of its kind's number.
-fn show_field(p: &[u8], entry: usize, asked: usize, kind: usize) {
+fn show_field(p: &[u8], entry: usize, asked: usize, kind: usize) -> bool {
     let question = [entry as u64, asked as u64, kind as u64, kind as u64];
     let mut words = [0u64; 7];
     ambrothel::ambrothel_field_at(p, entry, asked, kind, kind, &mut words);
-    print_words(b"field_at ", &question, &words);
+    print_words(b"field_at ", &question, &words)
 }
 
 // Of each kind, and of two that are none.
-fn show_fields(p: &[u8], entry: usize, asked: usize) {
+fn show_fields(p: &[u8], entry: usize, asked: usize) -> bool {
     let mut kind = 0;
     while kind < 11 {
-        show_field(p, entry, asked, kind);
+        if !show_field(p, entry, asked, kind) {
+            return false;
+        }
         kind += 1;
     }
+    true
 }
 
 // The bits of a double; a point has no NaN, which would have none.
@@ -46,7 +49,7 @@ fn show_point(
     latitude: usize,
     longitude: usize,
     altitude: usize,
-) {
+) -> bool {
     let mut words = [0u64; 3];
     let mut point = [0.0f64; 3];
     ambrothel::ambrothel_point_at(
@@ -74,46 +77,55 @@ fn show_point(
         bits_of(point[1]),
         bits_of(point[2]),
     ];
-    print_words(b"point_at ", &question, &answer);
+    print_words(b"point_at ", &question, &answer)
 }
 
 // A record; of the first three of the first four entries, fields and points too.
-fn show_record(p: &[u8], entry: usize, asked: usize) {
-    show_record_place(p, entry, asked);
-    show_record_part(p, entry, asked);
+fn show_record(p: &[u8], entry: usize, asked: usize) -> bool {
+    if !show_record_place(p, entry, asked) {
+        return false;
+    }
+    if !show_record_part(p, entry, asked) {
+        return false;
+    }
     if 3 < entry {
-        return;
+        return true;
     }
     if 2 < asked {
-        return;
+        return true;
     }
-    show_fields(p, entry, asked);
-    show_point(p, entry, asked, 0, 4, 8);
-    show_point(p, entry, asked, 4, 8, 0);
+    show_fields(p, entry, asked)
+        && show_point(p, entry, asked, 0, 4, 8)
+        && show_point(p, entry, asked, 4, 8, 0)
 }
 
 // The records of an entry and the one behind the last.
-fn show_records(p: &[u8], entry: usize, count: u64) {
+fn show_records(p: &[u8], entry: usize, count: u64) -> bool {
     let mut asked = 0;
     while asked < 41 {
-        if (asked as u64) <= count {
-            show_record(p, entry, asked);
+        if count < (asked as u64) {
+            return true;
+        }
+        if !show_record(p, entry, asked) {
+            return false;
         }
         asked += 1;
     }
+    true
 }
 
 // The records of every entry, and of the entry behind the last.
-pub fn show_all_records(p: &[u8], directory: &[u64; 644]) {
+pub fn show_all_records(p: &[u8], directory: &[u64; 644]) -> bool {
     let entries = directory[3];
     let mut entry = 0;
     while entry < 128 {
-        if (entry as u64) < entries {
-            show_records(p, entry, directory[388 + entry]);
+        if entries <= (entry as u64) {
+            return show_records(p, entry, 0);
+        }
+        if !show_records(p, entry, directory[388 + entry]) {
+            return false;
         }
         entry += 1;
     }
-    if entries <= 128 {
-        show_records(p, entries as usize, 0);
-    }
+    show_records(p, entry, 0)
 }

@@ -2,6 +2,7 @@
 -- Assumes nothing.
 use Prim.Native.Nat.{_-_, _≤_}
 use native.Mathlib.Omega.{arith}
+use borrow.Author.Needs.{needs}
 use Rattle.vectors.proofs.records.show_fields.Statement.{statement}
 use Rattle.vectors.proofs.records.show_fields.Tie as tie
 
@@ -15,7 +16,10 @@ loop-holds : tie.Need-loop-holds Inv-loop μ-loop
 loop-holds c = omega arith
 
 show-field-requires : tie.Need-show-field-requires Inv-loop μ-loop
-show-field-requires c κs = tt
+show-field-requires c κs = search needs
+
+returns : tie.Need-returns Inv-loop μ-loop
+returns c = tt
 
 add-kind : tie.Need-add-kind Inv-loop μ-loop
 add-kind c = omega arith
@@ -26,10 +30,19 @@ loop-less c = omega arith
 loop-again : tie.Need-loop-again Inv-loop μ-loop
 loop-again c = omega arith
 
-returns : tie.Need-returns Inv-loop μ-loop
-returns c = tt
+returns-2 : tie.Need-returns-2 Inv-loop μ-loop
+returns-2 c = tt
 
 pub show-fields-spec : {M : Type 1} → statement M
 show-fields-spec =
     tie.close
-    (tie.spec Inv-loop μ-loop loop-holds show-field-requires add-kind loop-less loop-again returns)
+    (tie.spec
+    Inv-loop
+    μ-loop
+    loop-holds
+    show-field-requires
+    returns
+    add-kind
+    loop-less
+    loop-again
+    returns-2)

@@ -15,8 +15,14 @@ abbrev μ-loop : tie.MeasureT-loop
 loop-holds : tie.Need-loop-holds Inv-loop μ-loop
 loop-holds c = omega arith
 
+returns : tie.Need-returns Inv-loop μ-loop
+returns c = tt
+
 show-record-requires : tie.Need-show-record-requires Inv-loop μ-loop
 show-record-requires c κs = search needs
+
+returns-2 : tie.Need-returns-2 Inv-loop μ-loop
+returns-2 c = tt
 
 add-asked : tie.Need-add-asked Inv-loop μ-loop
 add-asked c = omega arith
@@ -27,8 +33,8 @@ loop-less c = omega arith
 loop-again : tie.Need-loop-again Inv-loop μ-loop
 loop-again c = omega arith
 
-returns : tie.Need-returns Inv-loop μ-loop
-returns c = tt
+returns-3 : tie.Need-returns-3 Inv-loop μ-loop
+returns-3 c = tt
 
 pub show-records-spec : {M : Type 1} → statement M
 show-records-spec =
@@ -37,8 +43,10 @@ show-records-spec =
     Inv-loop
     μ-loop
     loop-holds
+    returns
     show-record-requires
+    returns-2
     add-asked
     loop-less
     loop-again
-    returns)
+    returns-3)
