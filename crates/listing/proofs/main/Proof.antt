@@ -1,52 +1,66 @@
--- `listing::main` meets its contract: what is written is what the listing put into the room.
+-- `listing::main` meets its contract: what arrived is a part of the room.
 -- Assumes nothing.
-use mathlib.Core.Path.{sym, ap, _∙_}
-use lib.ListN.{length}
 use borrow.Author.Needs.{needs}
 use Rattle.listing.proofs.main.Statement.{statement}
 use Rattle.listing.proofs.main.Tie as tie
 
-slice-aggregate-read-full : tie.Need-slice-aggregate-read-full
-slice-aggregate-read-full c = search needs
+slice-aggregate-read-whole : tie.Need-slice-aggregate-read-whole
+slice-aggregate-read-whole c = search needs
 
-read-full-requires : tie.Need-read-full-requires
-read-full-requires c κs = search needs
+read-whole-requires : tie.Need-read-whole-requires
+read-whole-requires c κs = search needs
 
-array-share-prefix-input : tie.Need-array-share-prefix-input
-array-share-prefix-input c = search needs
+enum-known-arrived : tie.Need-enum-known-arrived
+enum-known-arrived c = search needs
 
-slice-aggregate-list-product : tie.Need-slice-aggregate-list-product
-slice-aggregate-list-product c = search needs
+enum-told : tie.Need-enum-told
+enum-told c = search needs
 
-slice-aggregate-list-product-2 : tie.Need-slice-aggregate-list-product-2
-slice-aggregate-list-product-2 c = search needs
+slice-aggregate-fail : tie.Need-slice-aggregate-fail
+slice-aggregate-fail c = search needs
 
-list-product-requires : tie.Need-list-product-requires
-list-product-requires c κs = search needs
-
-array-share-prefix-out : tie.Need-array-share-prefix-out
-array-share-prefix-out c = search needs
-
-slice-aggregate-write-all : tie.Need-slice-aggregate-write-all
-slice-aggregate-write-all c = c .before .before .list-product .ensures .count ∙ ap length (sym (c .before .before .list-product .ensures .first))
-
-write-all-requires : tie.Need-write-all-requires
-write-all-requires c κs = search needs
+fail-requires : tie.Need-fail-requires
+fail-requires c κs = search needs
 
 returns : tie.Need-returns
 returns c = search needs
+
+array-share-prefix-input : tie.Need-array-share-prefix-input
+array-share-prefix-input c = (rw (c .before .arrived .given .1) at (c .before .before .before .before .read-whole .ensures)) .0
+
+slice-aggregate-write-listing : tie.Need-slice-aggregate-write-listing
+slice-aggregate-write-listing c = (rw (c .before .before .arrived .given .1) at (c .before .before .before .before .before .read-whole .ensures)) .1
+
+write-listing-requires : tie.Need-write-listing-requires
+write-listing-requires c κs = search needs
+
+slice-aggregate-fail-2 : tie.Need-slice-aggregate-fail-2
+slice-aggregate-fail-2 c = search needs
+
+fail-requires-2 : tie.Need-fail-requires-2
+fail-requires-2 c κs = search needs
+
+returns-2 : tie.Need-returns-2
+returns-2 c = search needs
+
+returns-3 : tie.Need-returns-3
+returns-3 c = search needs
 
 pub main-spec : {M : Type 1} → statement M
 main-spec =
     tie.close
     (tie.spec
-    slice-aggregate-read-full
-    read-full-requires
+    slice-aggregate-read-whole
+    read-whole-requires
+    enum-known-arrived
+    enum-told
+    slice-aggregate-fail
+    fail-requires
+    returns
     array-share-prefix-input
-    slice-aggregate-list-product
-    slice-aggregate-list-product-2
-    list-product-requires
-    array-share-prefix-out
-    slice-aggregate-write-all
-    write-all-requires
-    returns)
+    slice-aggregate-write-listing
+    write-listing-requires
+    slice-aggregate-fail-2
+    fail-requires-2
+    returns-2
+    returns-3)
