@@ -7,7 +7,7 @@ use crate::words::{entry_words, Answer, Call};
 use crate::LONGEST_LISTED;
 
 /// The products whose text is stored, in its order.
-pub const VECTOR_PRODUCTS: [&str; 27] = [
+pub const VECTOR_PRODUCTS: [&str; 28] = [
     "case-b",
     "case-k",
     "case-l",
@@ -34,6 +34,7 @@ pub const VECTOR_PRODUCTS: [&str; 27] = [
     "every-entry-form",
     "unequal-lengths",
     "minus-zeros",
+    "listed-last",
     "listed-no-more",
 ];
 
