@@ -64,8 +64,8 @@ static void print_entry(size_t i, const uint64_t *words, const char *texts)
         printf("entry %zu: spare\n", i);
         return;
     }
-    printf("entry %zu: type %c, %.*s offset %" PRIu64 ", size %" PRIu64 ", records %" PRIu64 " of %" PRId64 " bytes\n", i,
-           (char)words[AMBROTHEL_DIRECTORY_TYPES + i], AMBROTHEL_DIRECTORY_NAME_LENGTH, name,
+    printf("entry %zu: type %c, %.*s offset %" PRIu64 ", size %" PRIu64 ", records %" PRIu64 " of %" PRId64 " bytes\n",
+           i, (char)words[AMBROTHEL_DIRECTORY_TYPES + i], AMBROTHEL_DIRECTORY_NAME_LENGTH, name,
            words[AMBROTHEL_DIRECTORY_OFFSETS + i], words[AMBROTHEL_DIRECTORY_SIZES + i],
            words[AMBROTHEL_DIRECTORY_COUNTS + i], (int64_t)words[AMBROTHEL_DIRECTORY_RECORD_SIZES + i]);
 }
@@ -119,7 +119,7 @@ static int show_record(const uint8_t *product, size_t length, size_t entry, size
     }
     printf("record %zu of entry %zu: %" PRIu64 " bytes at %" PRIu64 "\n", record, entry,
            place[AMBROTHEL_PLACE_LENGTH], place[AMBROTHEL_PLACE_START]);
-    for (size_t kind = AMBROTHEL_SC; kind <= AMBROTHEL_MJD; kind++) {
+    for (size_t kind = AMBROTHEL_KIND_SC; kind <= AMBROTHEL_KIND_MJD; kind++) {
         uint64_t words[AMBROTHEL_FIELD_WORDS];
         if (ambrothel_field_at(product, length, entry, record, 0, kind, words, AMBROTHEL_FIELD_WORDS)) {
             return 1;

@@ -101,8 +101,8 @@ static inline const char *ambrothel_refusal_text(uint64_t number)
         "a byte of the main header is not as laid out",
         "TOT_SIZE's magnitude is over 2^63 - 1",
         "TOT_SIZE is not the length",
-        "SPH_SIZE is not 0 to 49,152, or the headers pass the end; NUM_DSD is not 0 to 128, or its DSDs exceed the SPH; "
-        "DSD_SIZE is not 280",
+        "SPH_SIZE is not 0 to 49,152, or the headers pass the end; "
+        "NUM_DSD is not 0 to 128, or its DSDs exceed the SPH; DSD_SIZE is not 280",
         "a bad or unended SPH line",
         "a byte of a DSD is not as laid out",
         "DS_OFFSET's or DS_SIZE's magnitude is over 2^63 - 1",
@@ -227,15 +227,15 @@ uint32_t ambrothel_record_part(const uint8_t *product, size_t length, size_t ent
 
 /* The kinds of field; every other number is refused with AMBROTHEL_REFUSED_KIND. */
 enum ambrothel_kind {
-    AMBROTHEL_SC = 1, /* signed and unsigned, of 1, 2 and 4 bytes */
-    AMBROTHEL_UC = 2,
-    AMBROTHEL_SS = 3,
-    AMBROTHEL_US = 4,
-    AMBROTHEL_SL = 5,
-    AMBROTHEL_UL = 6,
-    AMBROTHEL_FL = 7, /* a single float, 4 bytes, and a double one, 8 */
-    AMBROTHEL_DO = 8,
-    AMBROTHEL_MJD = 9 /* a time: days from 1 January 2000, seconds, microseconds, 12 bytes */
+    AMBROTHEL_KIND_SC = 1, /* signed and unsigned, of 1, 2 and 4 bytes */
+    AMBROTHEL_KIND_UC = 2,
+    AMBROTHEL_KIND_SS = 3,
+    AMBROTHEL_KIND_US = 4,
+    AMBROTHEL_KIND_SL = 5,
+    AMBROTHEL_KIND_UL = 6,
+    AMBROTHEL_KIND_FL = 7, /* a single float, 4 bytes, and a double one, 8 */
+    AMBROTHEL_KIND_DO = 8,
+    AMBROTHEL_KIND_MJD = 9 /* a time: days from 1 January 2000, seconds, microseconds, 12 bytes */
 };
 
 /* Which of the four things a field is, in words[AMBROTHEL_FIELD_CASE]. */

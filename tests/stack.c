@@ -2,7 +2,7 @@
  *
  *     stack PRODUCT ..
  *
- * A call runs on a stack of its own that is filled with a pattern before; what is not the pattern afterwards was used. */
+ * A call runs on a stack of its own that is filled with a pattern; what is not the pattern afterwards was used. */
 #define _XOPEN_SOURCE 700
 #include "ambrothel.h"
 
@@ -36,7 +36,7 @@ static void call(void)
     case 4: ambrothel_sph_part(product, length, words, room, bytes, ROOM); break;
     case 5: ambrothel_record_place(product, length, 0, 0, words, room); break;
     case 6: ambrothel_record_part(product, length, 0, 0, words, room, bytes, ROOM); break;
-    case 7: ambrothel_field_at(product, length, 0, 0, 0, AMBROTHEL_MJD, words, room); break;
+    case 7: ambrothel_field_at(product, length, 0, 0, 0, AMBROTHEL_KIND_MJD, words, room); break;
     default: ambrothel_point_at(product, length, 0, 0, 0, 4, 8, words, room, point, AMBROTHEL_POINT_DOUBLES);
     }
 }

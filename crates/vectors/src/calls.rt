@@ -1,6 +1,7 @@
 // Every public call on a product.
 ghost use mathlib.Core.Path.{_≡_};
 ghost use lib.ListN.{length};
+use crate::entries::ENTRIES;
 use crate::entries::show_entries;
 use crate::printing::print_part;
 use crate::printing::print_text;
@@ -16,7 +17,7 @@ fn show_judge(p: &[u8]) -> bool {
 fn show_directory(words: &[u64; 644], texts: &[u8]) -> bool
     requires { ⌜ length (now texts) ≡ 11520 ⌝ }
 {
-    let head = [words[0], words[1], words[2], words[3]];
+    let head = [words[0], words[1], words[2], words[ENTRIES]];
     print_words(b"directory ", &[], &head) && show_entries(words, texts)
 }
 

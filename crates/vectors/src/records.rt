@@ -1,4 +1,6 @@
 // The records of a product's entries, their fields and points.
+use crate::entries::COUNTS;
+use crate::entries::ENTRIES;
 use crate::printing::print_part;
 use crate::printing::print_words;
 
@@ -116,13 +118,13 @@ fn show_records(p: &[u8], entry: usize, count: u64) -> bool {
 
 // The records of every entry, and of the entry behind the last.
 pub fn show_all_records(p: &[u8], directory: &[u64; 644]) -> bool {
-    let entries = directory[3];
+    let entries = directory[ENTRIES];
     let mut entry = 0;
     while entry < 128 {
         if entries <= (entry as u64) {
             return show_records(p, entry, 0);
         }
-        if !show_records(p, entry, directory[388 + entry]) {
+        if !show_records(p, entry, directory[COUNTS + entry]) {
             return false;
         }
         entry += 1;
