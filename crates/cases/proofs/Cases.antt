@@ -12,10 +12,10 @@ use Rattle.layout.specs.Text.{fits, valueClasses, lineClasses, layout, valueWid
 use Rattle.layout.specs.Lines.{mph, dsd, spareDsd}
 use Rattle.layout.specs.Answer.{Answer, accepted, refused, Reply, refusal, is}
 use Rattle.layout.specs.Search.{first, some, count, find, sum, laidOut}
-use Rattle.layout.specs.Entries.{headerNumber, totSize, sphSize, numDsd, dsdSize, numDataSets, headersEnd, entries, dsdsAt, dsdAt, dsdBytes, entryOf, entryFrom, entriesFrom, entryAt, directory, at, isData, isReference, called, nonEmpty, start, extent, holds, shares, kindOf, isVariable, isStates, isFixed, allZero, inRange, setFits, numbersFit}
+use Rattle.layout.specs.Entries.{headerNumber, totSize, sphSize, numDsd, dsdSize, numDataSets, headersEnd, entries, dsdsAt, dsdAt, dsdBytes, entryOf, entryFrom, entriesFrom, entryAt, directory, at, isData, isReference, called, nonEmpty, nonEmptyAt, start, extent, holds, shares, kindOf, isVariable, isStates, isFixed, allZero, inRange, setFits, numbersFit}
 use Rattle.layout.specs.Sph.{sphLines, ended, blanks, unquoted, quoted, value, keyword, line, lineBegins}
 use Rattle.layout.specs.States.{stateOf, stateFits, attached, stateCount, stateLengths, stateBytes, isStatesAt, statesEntry, stateAt, stateIn, statesAt, statesOf, firstBad, countOfKind, totalOfKind, tallyOf, ofKind}
-use Rattle.layout.specs.Rules.{rule1, rule2, rule3, rule4, rule5, sphFits, dsdsFit, rule6, rule7At, rule7, linesOf, rule8At, rule8, rule9At, rule9, rule10At, rule10, isDataAt, dataSets, rule11, setInside, rule12At, rule12, sharesAt, rule13At, rule13, holdsAt, rule14At, rule14, isVariableAt, statesFit, rule15, isFilled, rule16At, rule16, rules1to6, rules7to14, headerRules, stateRules, verdictFrom, verdict}
+use Rattle.layout.specs.Rules.{rule1, rule2, rule3, rule4, rule5, sphFits, dsdsFit, rule6, rule7At, rule7, linesOf, rule8At, rule8, rule9At, rule9, rule10At, rule10, dataSets, rule11, setInside, rule12At, rule12, sharesAt, rule13At, rule13, holdsAt, rule14At, rule14, isVariableAt, statesFit, rule15, isFilled, rule16At, rule16, rules1to6, rules7to14, headerRules, stateRules, verdictFrom, verdict}
 use Rattle.layout.specs.Records.{variableLengths, lengths, recordAt, recordLength, recordPart, Span, recordRefusal, recordPlace}
 use Rattle.layout.specs.Fields.{Value, integer, Position, shapeOf, bytesOf, valueAt, recordOf, endsIn, fieldRefusal, fieldIn, fieldReply, quotient, degrees, metres, inLimits, positionAt, pointRefusal, pointIn, pointReply}
 use Rattle.layout.specs.Listing.{digitsBefore, decimal, signedDecimal, putBefore, trimmed, lineOf, entryLine, acceptedLines, listingFor, listing}
@@ -100,10 +100,10 @@ table =
 
 -- cases A to L
 cases-A-to-L : map (λ k. answer (k .product) (k .ask)) table ≡ map (λ k. k .want) table
-unfolding table answer part byteAt unsignedAt twosComplement signedAt fits valueClasses lineClasses layout valueWidth quoteWidth placeOf widthOf valueOf digits numberOf whole mph dsd spareDsd first some count find sum laidOut headerNumber totSize sphSize numDsd dsdSize numDataSets headersEnd entries dsdsAt dsdAt dsdBytes entryOf entryFrom entriesFrom entryAt directory at isData isReference called nonEmpty start extent holds shares kindOf isVariable isStates isFixed allZero inRange setFits numbersFit sphLines ended blanks unquoted quoted value keyword line lineBegins stateOf stateFits attached stateCount stateLengths stateBytes isStatesAt statesEntry stateAt stateIn statesAt statesOf firstBad countOfKind totalOfKind tallyOf ofKind rule1 rule2 rule3 rule4 rule5 sphFits dsdsFit rule6 rule7At rule7 linesOf rule8At rule8 rule9At rule9 rule10At rule10 isDataAt dataSets rule11 setInside rule12At rule12 sharesAt rule13At rule13 holdsAt rule14At rule14 isVariableAt statesFit rule15 isFilled rule16At rule16 rules1to6 rules7to14 headerRules stateRules verdictFrom verdict variableLengths lengths recordAt recordLength recordPart recordRefusal recordPlace shapeOf bytesOf valueAt recordOf endsIn fieldRefusal fieldIn fieldReply quotient degrees metres inLimits positionAt pointRefusal pointIn pointReply ofInt ofBits div digitsBefore decimal signedDecimal putBefore trimmed lineOf entryLine acceptedLines listingFor listing
+unfolding table answer part byteAt unsignedAt twosComplement signedAt fits valueClasses lineClasses layout valueWidth quoteWidth placeOf widthOf valueOf digits numberOf whole mph dsd spareDsd first some count find sum laidOut headerNumber totSize sphSize numDsd dsdSize numDataSets headersEnd entries dsdsAt dsdAt dsdBytes entryOf entryFrom entriesFrom entryAt directory at isData isReference called nonEmpty nonEmptyAt start extent holds shares kindOf isVariable isStates isFixed allZero inRange setFits numbersFit sphLines ended blanks unquoted quoted value keyword line lineBegins stateOf stateFits attached stateCount stateLengths stateBytes isStatesAt statesEntry stateAt stateIn statesAt statesOf firstBad countOfKind totalOfKind tallyOf ofKind rule1 rule2 rule3 rule4 rule5 sphFits dsdsFit rule6 rule7At rule7 linesOf rule8At rule8 rule9At rule9 rule10At rule10 dataSets rule11 setInside rule12At rule12 sharesAt rule13At rule13 holdsAt rule14At rule14 isVariableAt statesFit rule15 isFilled rule16At rule16 rules1to6 rules7to14 headerRules stateRules verdictFrom verdict variableLengths lengths recordAt recordLength recordPart recordRefusal recordPlace shapeOf bytesOf valueAt recordOf endsIn fieldRefusal fieldIn fieldReply quotient degrees metres inLimits positionAt pointRefusal pointIn pointReply ofInt ofBits div digitsBefore decimal signedDecimal putBefore trimmed lineOf entryLine acceptedLines listingFor listing
 cases-A-to-L = refl
 
--- ---- beyond A to L: states, unequal records, spares, SPH lines, the listing
+-- ---- beyond A to L: states, unequal records, spares, empty sets, SPH lines, the listing
 
 -- a state record: flag, kind, number of DSRs, DSR length
 abbrev stateRecord : ℕ → ℕ → ℕ → ℕ → List ℕ
@@ -115,13 +115,18 @@ nadir state1 state2 n =
     productOf [] (dsdOf 65 "STATES" 1807 2774 2 (plus 10 1387) ∷ dsdOf 77 "NADIR" 4581 5 n (bytes "-0000000001") ∷ []) 2
     (state1 ++ (state2 ++ 1 ∷ 2 ∷ 3 ∷ 4 ∷ 5 ∷ []))
 
--- spares, an R, an empty set, SPH lines
-abbrev mixed : List ℕ
-mixed =
+-- a spare, an R, an empty set, a set and SPH lines, by NUM_DATA_SETS
+abbrev mixed : ℕ → List ℕ
+mixed sets =
     productOf (bytes "A=\"\"\n   \nB_1= x=\n")
     ((replicate 279 32 ++ 10 ∷ []) ∷ dsdOf 82 "AUX" 0 0 0 (plus 10 0) ∷ dsdOf 65 "NONE" 99 0 0 (bytes "-0000000001") ∷ demo 2384 2 1 2 ∷ [])
-    2
+    sets
     (8 ∷ 9 ∷ [])
+
+-- an M, an A and a G, all empty; DS_SIZE of the A is -0
+abbrev allEmpty : ℕ → List ℕ
+allEmpty sets =
+    productOf [] (dsdOf 77 "NADIR" 0 0 0 (bytes "-0000000001") ∷ header dsd (given "DS_TYPE" (65 ∷ []) ∷ given "DS_SIZE" (bytes "-00000000000000000000") ∷ []) ∷ demo 0 0 0 5 ∷ []) sets []
 
 others : List Case
 others =
@@ -131,8 +136,15 @@ others =
     ∷ case (nadir (stateRecord 0 1 1 5) (stateRecord 1 9 1 2) 1) judge (verdictIs accepted)  -- flag 1: not attached
     ∷ case (nadir (stateRecord 0 1 1 5) (stateRecord 1 1 1 2) 2) judge (verdictIs (refused 16 4581 1))
     ∷ case (nadir (stateRecord 0 1 1 3) (stateRecord 0 5 1 2) 1) judge (verdictIs (refused 15 3194 0))
-    ∷ case mixed judge (verdictIs accepted)
-    ∷ case mixed list (listed (bytes "size 2386\nentry 0 spare\nentry 1 R AUX 0 0 0 0\nentry 2 A NONE 99 0 0 -1\nentry 3 G DEMO 2384 2 1 2\naccepted\n"))
+    ∷ case (mixed 1) judge (verdictIs accepted)  -- sets of one byte or more are counted
+    ∷ case (mixed 2) judge (verdictIs (refused 11 1194 128))  -- an empty set is not
+    ∷ case (mixed 3) judge (verdictIs (refused 11 1194 128))  -- nor is R
+    ∷ case (mixed 4) judge (verdictIs (refused 11 1194 128))  -- nor a spare
+    ∷ case (mixed 0) judge (verdictIs (refused 11 1194 128))
+    ∷ case (allEmpty 0) judge (verdictIs accepted)
+    ∷ case (allEmpty 1) judge (verdictIs (refused 11 1194 128))  -- -0 is 0
+    ∷ case (allEmpty 3) judge (verdictIs (refused 11 1194 128))
+    ∷ case (mixed 1) list (listed (bytes "size 2386\nentry 0 spare\nentry 1 R AUX 0 0 0 0\nentry 2 A NONE 99 0 0 -1\nentry 3 G DEMO 2384 2 1 2\naccepted\n"))
     ∷ case (oneSet 1527 15) list (listed (bytes "size 1542\nentry 0 G DEMO 1527 15 3 5\naccepted\n"))  -- B
     ∷ case (oneSet 1527 16) list (listed (bytes "refused 14 1542 128\n"))  -- E
     ∷ case (productOf (bytes "A=\n") [] 0 []) judge (verdictIs (refused 7 1247 128))
@@ -141,7 +153,7 @@ others =
     ∷ []
 
 other-cases : map (λ k. answer (k .product) (k .ask)) others ≡ map (λ k. k .want) others
-unfolding others answer part byteAt unsignedAt twosComplement signedAt fits valueClasses lineClasses layout valueWidth quoteWidth placeOf widthOf valueOf digits numberOf whole mph dsd spareDsd first some count find sum laidOut headerNumber totSize sphSize numDsd dsdSize numDataSets headersEnd entries dsdsAt dsdAt dsdBytes entryOf entryFrom entriesFrom entryAt directory at isData isReference called nonEmpty start extent holds shares kindOf isVariable isStates isFixed allZero inRange setFits numbersFit sphLines ended blanks unquoted quoted value keyword line lineBegins stateOf stateFits attached stateCount stateLengths stateBytes isStatesAt statesEntry stateAt stateIn statesAt statesOf firstBad countOfKind totalOfKind tallyOf ofKind rule1 rule2 rule3 rule4 rule5 sphFits dsdsFit rule6 rule7At rule7 linesOf rule8At rule8 rule9At rule9 rule10At rule10 isDataAt dataSets rule11 setInside rule12At rule12 sharesAt rule13At rule13 holdsAt rule14At rule14 isVariableAt statesFit rule15 isFilled rule16At rule16 rules1to6 rules7to14 headerRules stateRules verdictFrom verdict variableLengths lengths recordAt recordLength recordPart recordRefusal recordPlace shapeOf bytesOf valueAt recordOf endsIn fieldRefusal fieldIn fieldReply quotient degrees metres inLimits positionAt pointRefusal pointIn pointReply ofInt ofBits div digitsBefore decimal signedDecimal putBefore trimmed lineOf entryLine acceptedLines listingFor listing
+unfolding others answer part byteAt unsignedAt twosComplement signedAt fits valueClasses lineClasses layout valueWidth quoteWidth placeOf widthOf valueOf digits numberOf whole mph dsd spareDsd first some count find sum laidOut headerNumber totSize sphSize numDsd dsdSize numDataSets headersEnd entries dsdsAt dsdAt dsdBytes entryOf entryFrom entriesFrom entryAt directory at isData isReference called nonEmpty nonEmptyAt start extent holds shares kindOf isVariable isStates isFixed allZero inRange setFits numbersFit sphLines ended blanks unquoted quoted value keyword line lineBegins stateOf stateFits attached stateCount stateLengths stateBytes isStatesAt statesEntry stateAt stateIn statesAt statesOf firstBad countOfKind totalOfKind tallyOf ofKind rule1 rule2 rule3 rule4 rule5 sphFits dsdsFit rule6 rule7At rule7 linesOf rule8At rule8 rule9At rule9 rule10At rule10 dataSets rule11 setInside rule12At rule12 sharesAt rule13At rule13 holdsAt rule14At rule14 isVariableAt statesFit rule15 isFilled rule16At rule16 rules1to6 rules7to14 headerRules stateRules verdictFrom verdict variableLengths lengths recordAt recordLength recordPart recordRefusal recordPlace shapeOf bytesOf valueAt recordOf endsIn fieldRefusal fieldIn fieldReply quotient degrees metres inLimits positionAt pointRefusal pointIn pointReply ofInt ofBits div digitsBefore decimal signedDecimal putBefore trimmed lineOf entryLine acceptedLines listingFor listing
 other-cases = refl
 
 -- ---- the 34 header values, and a directory
@@ -204,9 +216,9 @@ abbrev mixedOffsets : List ℕ
 mixedOffsets = 0 ∷ 0 ∷ 99 ∷ 2384 ∷ replicate 124 0
 
 mixed-directory :
-    (directoryOf (directory mixed) .types ≡ 32 ∷ 82 ∷ 65 ∷ 71 ∷ replicate 124 0)
-    × ((directoryOf (directory mixed) .offsets ≡ mixedOffsets)
-    × ((directoryOf (directory mixed) .«record_sizes» ≡ pos 0 ∷ pos 0 ∷ negsuc 0 ∷ pos 2 ∷ replicate 124 (pos 0))
-    × (take 58 (directoryOf (directory mixed) .names) ≡ replicate 28 32 ++ (bytes "AUX" ++ (replicate 25 32 ++ bytes "NO")))))
-unfolding directoryOf padded part byteAt unsignedAt twosComplement signedAt fits valueClasses lineClasses layout valueWidth quoteWidth placeOf widthOf valueOf digits numberOf whole mph dsd spareDsd first some count find sum laidOut headerNumber totSize sphSize numDsd dsdSize numDataSets headersEnd entries dsdsAt dsdAt dsdBytes entryOf entryFrom entriesFrom entryAt directory at isData isReference called nonEmpty start extent holds shares kindOf isVariable isStates isFixed allZero inRange setFits numbersFit sphLines ended blanks unquoted quoted value keyword line lineBegins stateOf stateFits attached stateCount stateLengths stateBytes isStatesAt statesEntry stateAt stateIn statesAt statesOf firstBad countOfKind totalOfKind tallyOf ofKind rule1 rule2 rule3 rule4 rule5 sphFits dsdsFit rule6 rule7At rule7 linesOf rule8At rule8 rule9At rule9 rule10At rule10 isDataAt dataSets rule11 setInside rule12At rule12 sharesAt rule13At rule13 holdsAt rule14At rule14 isVariableAt statesFit rule15 isFilled rule16At rule16 rules1to6 rules7to14 headerRules stateRules verdictFrom verdict variableLengths lengths recordAt recordLength recordPart recordRefusal recordPlace shapeOf bytesOf valueAt recordOf endsIn fieldRefusal fieldIn fieldReply quotient degrees metres inLimits positionAt pointRefusal pointIn pointReply ofInt ofBits div digitsBefore decimal signedDecimal putBefore trimmed lineOf entryLine acceptedLines
+    (directoryOf (directory (mixed 1)) .types ≡ 32 ∷ 82 ∷ 65 ∷ 71 ∷ replicate 124 0)
+    × ((directoryOf (directory (mixed 1)) .offsets ≡ mixedOffsets)
+    × ((directoryOf (directory (mixed 1)) .«record_sizes» ≡ pos 0 ∷ pos 0 ∷ negsuc 0 ∷ pos 2 ∷ replicate 124 (pos 0))
+    × (take 58 (directoryOf (directory (mixed 1)) .names) ≡ replicate 28 32 ++ (bytes "AUX" ++ (replicate 25 32 ++ bytes "NO")))))
+unfolding directoryOf padded part byteAt unsignedAt twosComplement signedAt fits valueClasses lineClasses layout valueWidth quoteWidth placeOf widthOf valueOf digits numberOf whole mph dsd spareDsd first some count find sum laidOut headerNumber totSize sphSize numDsd dsdSize numDataSets headersEnd entries dsdsAt dsdAt dsdBytes entryOf entryFrom entriesFrom entryAt directory at isData isReference called nonEmpty nonEmptyAt start extent holds shares kindOf isVariable isStates isFixed allZero inRange setFits numbersFit sphLines ended blanks unquoted quoted value keyword line lineBegins stateOf stateFits attached stateCount stateLengths stateBytes isStatesAt statesEntry stateAt stateIn statesAt statesOf firstBad countOfKind totalOfKind tallyOf ofKind rule1 rule2 rule3 rule4 rule5 sphFits dsdsFit rule6 rule7At rule7 linesOf rule8At rule8 rule9At rule9 rule10At rule10 dataSets rule11 setInside rule12At rule12 sharesAt rule13At rule13 holdsAt rule14At rule14 isVariableAt statesFit rule15 isFilled rule16At rule16 rules1to6 rules7to14 headerRules stateRules verdictFrom verdict variableLengths lengths recordAt recordLength recordPart recordRefusal recordPlace shapeOf bytesOf valueAt recordOf endsIn fieldRefusal fieldIn fieldReply quotient degrees metres inLimits positionAt pointRefusal pointIn pointReply ofInt ofBits div digitsBefore decimal signedDecimal putBefore trimmed lineOf entryLine acceptedLines
 mixed-directory = (refl, (refl, (refl, refl)))

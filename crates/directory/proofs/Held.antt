@@ -10,14 +10,13 @@ use lib.IntN.{ℤ, pos}
 use lib.ListN.{length}
 use borrow.Author.Tests.{eqb-true}
 use Rattle.layout.specs.Search.{find, upto}
-use Rattle.layout.specs.Entries.{Entry, entryFrom, entriesFrom, at, start, extent, isData, numbersFit}
-use Rattle.layout.specs.Rules.{isDataAt}
+use Rattle.layout.specs.Entries.{Entry, entryFrom, entriesFrom, at, nonEmpty, nonEmptyAt, start, extent, numbersFit}
 use Rattle.layout.specs.Answers.{padded, typeOf, countOf, recordSizeOf, directoryOf}
 use Rattle.layout.proofs.Laws.{find-before, not-not}
 use Rattle.layout.proofs.Sound.{length-entries, at-entries}
 use Rattle.dsd.specs.declared.Entry.{Entry as HeldEntry}
 use Rattle.dsd.specs.Held.{heldOf, viewOf, overPlace, roleOf, Read}
-use Rattle.dsd.proofs.Views.{turn-held, over-held}
+use Rattle.dsd.proofs.Views.{turn-held, over-held, held-nonEmpty}
 use Rattle.directory.specs.Numbers.{setsOf, heldStart, heldExtent, heldRole, heldSets, directoryWith}
 use Rattle.directory.specs.Checks.{overAt, unfitAt}
 use Rattle.directory.specs.declared.Sets.{Sets}
@@ -40,9 +39,9 @@ module _ (b : List ℕ) (from n i : ℕ) (inside : i < n) (h : HeldEntry) (read 
   unfolding unfitAt
   fits-is e = e ∙ rw (held-is, at-is) (sym (not-not (numbersFit (viewOf (heldOf (entryFrom b from i))))))
 
-  pub counted-is : isData (viewOf h) ≡ isDataAt (entriesFrom b from n) i
-  unfolding isDataAt isData viewOf heldOf
-  counted-is = rw (held-is, at-is)
+  pub counted-is : nonEmpty (viewOf h) ≡ nonEmptyAt (entriesFrom b from n) i
+  unfolding nonEmptyAt
+  counted-is = rw (held-is, at-is) (held-nonEmpty (entryFrom b from i))
 
 -- ---- all of them
 

@@ -1,16 +1,16 @@
--- The turns of rule 10's test on one entry, and what the view of a held entry shows of its name.
+-- The turns of rule 10's test on one entry, which sets are counted, and what the view of a held entry shows of its name.
 -- Assumes nothing.
 use Prim.Native.Nat.{ℕ, _≤_, _<_}
-use mathlib.Core.Bool.{Bool, true, false, cond, _&&_, _||_, not, and-true, and-false}
+use mathlib.Core.Bool.{Bool, true, false, cond, _&&_, _||_, not, and-true, and-false, and-assoc}
 use mathlib.Core.Logic.{_⊎_, inl, inr}
-use mathlib.Core.Path.{_≡_, sym, _∙_}
+use mathlib.Core.Path.{_≡_, sym, ap, _∙_}
 use native.Mathlib.Omega.{arith}
 use lib.Dec.{ltb, eqb}
 use lib.IntN.{pos, negsuc}
 use lib.Signed.{leZ, ltZ}
 use borrow.Author.Tests.{eq-eqb, ne-eqb, lt-ltb, le-ltb, le-leb, lt-leb}
 use Rattle.layout.specs.Text.{whole}
-use Rattle.layout.specs.Entries.{Entry, eqZ, kindOf, isData, isReference, allZero, inRange, isFixed, isVariable, isStates, setFits, numbersFit}
+use Rattle.layout.specs.Entries.{Entry, eqZ, kindOf, isData, nonEmpty, isReference, allZero, inRange, isFixed, isVariable, isStates, setFits, numbersFit}
 use Rattle.layout.proofs.Laws.{lt-or-le}
 use Rattle.dsd.specs.Held.{numberFrom, viewOf, roleOf}
 use Rattle.dsd.specs.declared.Entry.{Entry as HeldEntry}
@@ -60,6 +60,11 @@ module _ (e : Entry) (r : inRange e ≡ true) where
 -- ---- one entry
 
 module _ (e : Entry) where
+  -- a set of one byte or more, by the sign and the magnitude of its size
+  pub non-empty-by : (isData e && not (e .size .minus) && ltb 0 (e .size .magnitude)) ≡ nonEmpty e
+  unfolding nonEmpty
+  non-empty-by = and-assoc (isData e) (not (e .size .minus)) (ltb 0 (e .size .magnitude)) ∙ ap (λ (t : Bool). isData e && t) (sym (above (e .size)))
+
   pub fits-reference : e .type ≡ 82 → allZero e ≡ numbersFit e
   unfolding numbersFit isReference isData
   fits-reference h =

@@ -6,15 +6,16 @@ use mathlib.Core.List.{List, []}
 use mathlib.Core.Logic.{_⊎_, inl, inr}
 use mathlib.Core.Path.{_≡_, refl, sym, ap, _∙_}
 use native.Mathlib.Omega.{arith}
-use lib.Dec.{leb}
-use borrow.Author.Tests.{le-leb, lt-leb, leb-true}
+use lib.Dec.{leb, ltb}
+use borrow.Author.Tests.{le-leb, lt-leb, leb-true, lt-ltb, le-ltb}
 use Rattle.layout.specs.Text.{whole}
-use Rattle.layout.specs.Entries.{Entry, largestSigned, start, extent, kindOf, isData, isReference, isVariable, isStates, allZero, inRange, isFixed, setFits, numbersFit}
+use Rattle.layout.specs.Entries.{Entry, largestSigned, start, extent, kindOf, isData, nonEmpty, isReference, isVariable, isStates, allZero, inRange, isFixed, setFits, numbersFit}
 use Rattle.layout.specs.Answers.{typeOf, countOf, recordSizeOf}
 use Rattle.layout.proofs.Laws.{lt-or-le}
 use Rattle.text.specs.Numbers.{capped, wholeIn}
 use Rattle.dsd.specs.declared.Entry.{Entry as HeldEntry}
 use Rattle.dsd.specs.Held.{nameRole, nameText, numberFrom, heldOf, viewOf, overPlace, roleOf}
+use Rattle.dsd.proofs.Numbers.{above}
 use Rattle.dsd.proofs.Names.{kind-role, states-by-role, role-again}
 
 -- ---- numbers held at 2^63
@@ -26,6 +27,14 @@ capped-test m = go (lt-or-le largestSigned m)
     go : (largestSigned < m) ⊎ (m ≤ largestSigned) → leb (capped m) largestSigned ≡ leb m largestSigned
     go (inl h) = rw (lt-leb m largestSigned h) (lt-leb (capped m) largestSigned (omega arith))
     go (inr h) = rw (le-leb m largestSigned h) (le-leb (capped m) largestSigned (omega arith))
+
+capped-filled : (m : ℕ) → ltb 0 (capped m) ≡ ltb 0 m
+unfolding capped
+capped-filled m = go (lt-or-le 0 m)
+  where
+    go : (0 < m) ⊎ (m ≤ 0) → ltb 0 (capped m) ≡ ltb 0 m
+    go (inl h) = rw (lt-ltb 0 m h) (lt-ltb 0 (capped m) (omega arith))
+    go (inr h) = rw (le-ltb 0 m h) (le-ltb 0 (capped m) (omega arith))
 
 capped-same : (m : ℕ) → leb (capped m) largestSigned ≡ true → capped m ≡ m
 unfolding capped
@@ -39,6 +48,11 @@ over-none false u h = absurd (omega arith)
 pub over-held : (e : Entry) → overPlace (viewOf (heldOf e)) ≡ overPlace e
 unfolding overPlace viewOf heldOf numberFrom
 over-held e = rw (capped-test (e .offset .magnitude), capped-test (e .size .magnitude))
+
+-- a set of one byte or more is held as one, whatever its size is held at
+pub held-nonEmpty : (e : Entry) → nonEmpty (viewOf (heldOf e)) ≡ nonEmpty e
+unfolding nonEmpty isData viewOf heldOf numberFrom
+held-nonEmpty e = rw (above (numberFrom (heldOf e .size)), above (e .size), capped-filled (e .size .magnitude))
 
 -- ---- the entry under another name
 
@@ -100,10 +114,9 @@ pub record Turn (e : Entry) (h : HeldEntry) : Type 0 where
   pub record-sizes : wholeIn (h .«record_size») ≡ recordSizeOf e
   pub roles : roleOf (viewOf h) ≡ roleOf e
   pub fits : numbersFit (viewOf h) ≡ numbersFit e
-  pub counted : isData (viewOf h) ≡ isData e
 
 pub turn-held : (e : Entry) → overPlace (viewOf (heldOf e)) ≡ 0 → Turn e (heldOf e)
-unfolding heldOf start extent wholeIn whole isData
+unfolding heldOf start extent wholeIn whole
 turn-held e ok =
     record {
       types = refl;
@@ -113,8 +126,4 @@ turn-held e ok =
       record-sizes = refl;
       roles = ap roleOf (view e ok) ∙ same-role e;
       fits = ap numbersFit (view e ok) ∙ same-fits e;
-      counted = ap isData (view e ok) ∙ same-counted;
     }
-  where
-    same-counted : isData (by-role e) ≡ isData e
-    same-counted = refl

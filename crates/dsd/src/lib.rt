@@ -6,7 +6,7 @@ ghost use lib.IntN.{pos};
 ghost use lib.ListN.{length};
 ghost use Rattle.layout.specs.Bytes.{part};
 ghost use Rattle.layout.specs.Lines.{sizeOfDsd};
-ghost use Rattle.layout.specs.Entries.{entryOf, called, isData, allZero, inRange, isFixed, isVariable, setFits, numbersFit, atLeast};
+ghost use Rattle.layout.specs.Entries.{entryOf, called, isData, nonEmpty, allZero, inRange, isFixed, isVariable, setFits, numbersFit, atLeast};
 ghost use Rattle.dsd.specs.Held.{nameRole, numberFrom, heldOf, viewOf, spareBytes, SpareByFirst, Read, overPlace, roleOf};
 
 // The 28 bytes from `start` on are this name, padded with blanks.
@@ -242,12 +242,19 @@ impl Entry {
         self.set_fits()
     }
 
-    // What NUM_DATA_SETS counts, if it counts `counted` before this entry (rule 11).
+    // A set of one byte or more: minus zero is no byte, and R has none.
+    fn is_non_empty(self) -> bool
+        ensures { λ r. ⌜ r ≡ nonEmpty (viewOf self) ⌝ }
+    {
+        self.is_data() & !self.size.minus & (0 < self.size.magnitude)
+    }
+
+    // What NUM_DATA_SETS counts, if it counts `counted` before this entry (rule 11): sets of one byte or more.
     pub fn counted_with(self, counted: usize) -> usize
         requires { ⌜ counted < 128 ⌝ }
-        ensures { λ r. ⌜ r ≡ counted + cond (isData (viewOf self)) 1 0 ⌝ }
+        ensures { λ r. ⌜ r ≡ counted + cond (nonEmpty (viewOf self)) 1 0 ⌝ }
     {
-        if self.is_data() {
+        if self.is_non_empty() {
             return counted + 1;
         }
         counted

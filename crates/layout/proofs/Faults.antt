@@ -16,14 +16,14 @@ use Rattle.layout.specs.Text.{layout, whole, lineClasses, valueClasses, 
 use Rattle.layout.specs.Lines.{mph, dsd, spareDsd}
 use Rattle.layout.specs.Answer.{Answer, need, none, _⇒_, _orElse_}
 use Rattle.layout.specs.Search.{first, some, count, find, upto, sum, join}
-use Rattle.layout.specs.Entries.{Entry, largestSigned, eqZ, totSize, dsdSize, numDataSets, entries, dsdAt, dsdBytes, entryOf, entryAt, directory, at, isData, nonEmpty, start, extent, kindOf, isVariable, numbersFit}
+use Rattle.layout.specs.Entries.{Entry, largestSigned, eqZ, totSize, dsdSize, numDataSets, entries, dsdAt, dsdBytes, entryOf, entryAt, directory, at, nonEmpty, nonEmptyAt, start, extent, kindOf, isVariable, numbersFit}
 use Rattle.layout.specs.Sph.{sphLines, line, lineBegins}
 use Rattle.layout.specs.States.{State, stateFits, stateCount, stateLengths, stateBytes, countOfKind, totalOfKind, isStatesAt, statesEntry, stateAt, statesAt, statesOf, stateIn, firstBad, tallyOf, ofKind}
 use Rattle.layout.specs.Records.{variableLengths}
-use Rattle.layout.specs.Rules.{rule1, rule2, rule3, rule4, rule5, sphFits, dsdsFit, rule6, rule7At, rule7, linesOf, rule8At, rule8, rule9At, rule9, rule10At, rule10, isDataAt, dataSets, rule11, setInside, rule12At, sharesAt, rule13At, holdsAt, rule14At, isVariableAt, statesFit, rule15, isFilled, rule16At, rule16}
-use Rattle.layout.specs.Faults.{At, Upto, LaidOut, DsdLaidOut, IsData, NonEmpty, Byte, OfKind, Variable, NumbersFit, HowMany, OnlyStates, StateFits, RecordLengths, Fault1, Fault2, Fault3, Fault4, Fault5, SphFits, DsdsFit, Fault6, Fault7, Fault8, Fault9, Fault10, Fault11, Fault12, Fault13, Fault14, HasVariable, BadStates, Fault15, Filled, Fault16}
+use Rattle.layout.specs.Rules.{rule1, rule2, rule3, rule4, rule5, sphFits, dsdsFit, rule6, rule7At, rule7, linesOf, rule8At, rule8, rule9At, rule9, rule10At, rule10, dataSets, rule11, setInside, rule12At, sharesAt, rule13At, holdsAt, rule14At, isVariableAt, statesFit, rule15, isFilled, rule16At, rule16}
+use Rattle.layout.specs.Faults.{At, Upto, LaidOut, DsdLaidOut, NonEmpty, Byte, OfKind, Variable, NumbersFit, HowMany, OnlyStates, StateFits, RecordLengths, Fault1, Fault2, Fault3, Fault4, Fault5, SphFits, DsdsFit, Fault6, Fault7, Fault8, Fault9, Fault10, Fault11, Fault12, Fault13, Fault14, HasVariable, BadStates, Fault15, Filled, Fault16}
 use Rattle.layout.proofs.Laws.{not-not-T, not-iff, and-T, imp-T, not-T′, not-imp-T, leb-T, under, eqb-T, leZ-T, ltZ-T, eqZ-T, some-T}
-use Rattle.layout.proofs.Tests.{data-T, nonEmpty-T, holds-T, shares-T, of-kind, kind-is, variable-T, variable-kind, numbers-T, state-T, states-T, lengths-are, one-lengths, number-is, one-number, counted-once, once-found, once-counted}
+use Rattle.layout.proofs.Tests.{nonEmpty-T, holds-T, shares-T, of-kind, kind-is, variable-T, variable-kind, numbers-T, state-T, states-T, lengths-are, one-lengths, number-is, one-number, counted-once, once-found, once-counted}
 use Rattle.layout.proofs.SphText.{line-T, begins-T}
 use Rattle.layout.proofs.Judges.{Judges, same-faults, need-judges, need-then-judges, both-judges, where-judges, entries-judge, places-judge, in-order, laidOut-judges}
 use Rattle.layout.proofs.Starts.{mph-length, lines-length}
@@ -171,9 +171,9 @@ module _ (b : List ℕ) (n : ℕ) where
       (λ j. same-faults _ _ (λ p e. (λ f. ((f .0, f .1 .0), f .1 .1), λ f. (f .0 .0, (f .0 .1, f .1))))
       (need-judges (numbersFit (entryAt b j)) 10 (dsdAt b j) j (not-iff (numbers-T (entryAt b j)))))
 
-  counted : (ds : List Entry) → HowMany IsData ds (dataSets ds)
-  unfolding dataSets isDataAt
-  counted ds = number-is IsData isData data-T ds
+  counted : (ds : List Entry) → HowMany NonEmpty ds (dataSets ds)
+  unfolding dataSets nonEmptyAt
+  counted ds = number-is NonEmpty nonEmpty nonEmpty-T ds
 
   pub judges11 : Judges (rule11 b n) 11 (Fault11 b n)
   unfolding rule11
@@ -181,7 +181,7 @@ module _ (b : List ℕ) (n : ℕ) where
       let m = dataSets (directory b) in
       let z = whole (numDataSets b) in
       need-judges (eqZ z (pos m)) 11 1194 none (
-        λ h k c e. h (eqZ-T z (pos m) .1 (e ∙ ap pos (one-number IsData (directory b) k m c (counted (directory b))))),
+        λ h k c e. h (eqZ-T z (pos m) .1 (e ∙ ap pos (one-number NonEmpty (directory b) k m c (counted (directory b))))),
         λ h t. h m (counted (directory b)) (eqZ-T z (pos m) .0 t),
       )
 

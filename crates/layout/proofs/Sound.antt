@@ -16,11 +16,11 @@ use Rattle.layout.specs.Bytes.{bytes, member}
 use Rattle.layout.specs.Text.{Number, whole, layout}
 use Rattle.layout.specs.Answer.{accepted}
 use Rattle.layout.specs.Search.{upto, laidOut}
-use Rattle.layout.specs.Entries.{Entry, largestSigned, totSize, sphSize, numDsd, headersEnd, entries, dsdsAt, dsdAt, dsdBytes, entryOf, entryFrom, entriesFrom, entryAt, directory, at, isData, nonEmpty, start, extent, isVariable}
+use Rattle.layout.specs.Entries.{Entry, largestSigned, totSize, sphSize, numDsd, numDataSets, headersEnd, entries, dsdsAt, dsdAt, dsdBytes, entryOf, entryFrom, entriesFrom, entryAt, directory, at, isData, nonEmpty, start, extent, isVariable}
 use Rattle.layout.specs.States.{State, Tally, statesOf, tallyOf}
 use Rattle.layout.specs.Records.{lengths}
 use Rattle.layout.specs.Faults.{NonEmpty, Byte, NumbersFit, Variable}
-use Rattle.layout.specs.Rules.{rule1, rule2, rule3, rule4, rule5, rule6, sphFits, dsdsFit, rule7, linesOf, rule8, rule8At, rule9, rule9At, rule10, rule10At, rule11, rule12, rule12At, setInside, rule13, rule13At, sharesAt, rule14, rule14At, holdsAt, rule15, rule16, rule16At, rules1to6, rules7to14, headerRules, stateRules, verdictFrom, verdict}
+use Rattle.layout.specs.Rules.{rule1, rule2, rule3, rule4, rule5, rule6, sphFits, dsdsFit, rule7, linesOf, rule8, rule8At, rule9, rule9At, rule10, rule10At, dataSets, rule11, rule12, rule12At, setInside, rule13, rule13At, sharesAt, rule14, rule14At, holdsAt, rule15, rule16, rule16At, rules1to6, rules7to14, headerRules, stateRules, verdictFrom, verdict}
 use Rattle.layout.proofs.Laws.{and-T, imp-T, not-T′, leb-T, eqb-T, leZ-T, ltZ-T, eqZ-T, need-accepts, orElse-accepts, where-accepts, first-accepts, first-accepts-0, some-T}
 use Rattle.layout.proofs.Types.{Typed, laidOut-typed}
 use Rattle.layout.proofs.Widths.{count-small}
@@ -99,6 +99,7 @@ pub record Headed (b : List ℕ) (n : ℕ) : Type 0 where
   pub counts : (i : ℕ) → i < length (directory b) → at (directory b) i .count .magnitude < 10 ^ 10  -- NUM_DSR has ten digits
   pub held : (i : ℕ) → i < length (directory b) → (start (at (directory b) i) ≤ largestSigned) × (extent (at (directory b) i) ≤ largestSigned)
   pub numbers : (i : ℕ) → i < length (directory b) → NumbersFit (at (directory b) i)
+  pub counted : whole (numDataSets b) ≡ pos (dataSets (directory b))
   pub inside : (i : ℕ) → i < length (directory b) → NonEmpty (at (directory b) i) → (headersEnd b ≤ start (at (directory b) i)) × (start (at (directory b) i) + extent (at (directory b) i) ≤ n)
   pub apart : (i : ℕ) → i < length (directory b) → ((j : ℕ) × (j < i) × ((p : ℕ) × (Byte (at (directory b) i) p × Byte (at (directory b) j) p))) → ⊥
   pub covered : (p : ℕ) → headersEnd b ≤ p → p < n → (i : ℕ) × (i < length (directory b)) × Byte (at (directory b) i) p
@@ -245,6 +246,10 @@ module _ (b : List ℕ) (n : ℕ) (h : headerRules b n ≡ accepted) where
   unfolding rule10 rule10At
   rule10-sound = simp (first-accepts-0, need-accepts, numbers-T) at (keeps .ten)
 
+  rule11-sound : whole (numDataSets b) ≡ pos (dataSets (directory b))
+  unfolding rule11
+  rule11-sound = simp tests at (keeps .eleven)
+
   rule12-sound : (i : ℕ) → i < length (directory b) → NonEmpty (at (directory b) i) → (headersEnd b ≤ start (at (directory b) i)) × (start (at (directory b) i) + extent (at (directory b) i) ≤ n)
   unfolding rule12 rule12At setInside
   rule12-sound = simp (tests, nonEmpty-T) at (keeps .twelve)
@@ -270,6 +275,7 @@ module _ (b : List ℕ) (n : ℕ) (h : headerRules b n ≡ accepted) where
         counts = of-entries (λ e. e .count .magnitude < 10 ^ 10) counts-sound;
         held = of-entries (λ e. (start e ≤ largestSigned) × (extent e ≤ largestSigned)) rule9-sound;
         numbers = of-entries NumbersFit rule10-sound;
+        counted = rule11-sound;
         inside = rule12-sound;
         apart = rule13-sound;
         covered = rule14-sound;

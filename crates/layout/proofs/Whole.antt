@@ -2,24 +2,26 @@
 -- ranks of the non-empty sets are 0, 1 and so on.
 -- Assumes nothing.
 use Prim.Native.Nat.{ℕ, zero, suc, _+_, _-_, _≤_, _<_}
-use mathlib.Core.Bool.{Bool, true, false, cond, _&&_}
+use mathlib.Core.Bool.{Bool, true, false, cond, _&&_, and-true}
 use mathlib.Core.Logic.{_⊎_, inl, inr}
 use mathlib.Core.List.{List, [], _∷_, _++_, map}
 use mathlib.Core.Path.{_≡_, refl, sym, ap, _∙_, subst, fun-ext}
 use native.Mathlib.Omega.{arith}
 use native.Mathlib.Nat.{add-assoc, add-zero, le-of-suc-le-suc, not-suc-le-zero}
 use lib.Dec.{T, ltb}
+use lib.IntN.{pos}
 use lib.ListN.{length, take, drop, getD, replicate, take-append-drop}
 use lib.Seq.{drop-drop, take-add, take-nil, take-length}
 use Rattle.layout.specs.Bytes.{part}
+use Rattle.layout.specs.Text.{whole}
 use Rattle.layout.specs.Answer.{accepted}
 use Rattle.layout.specs.Search.{All, Some, count, upto, sum, join}
-use Rattle.layout.specs.Entries.{Entry, headersEnd, directory, at, nonEmpty, start, extent, kindOf, isVariable}
+use Rattle.layout.specs.Entries.{Entry, numDataSets, headersEnd, directory, at, nonEmpty, nonEmptyAt, start, extent, kindOf, isVariable}
 use Rattle.layout.specs.States.{State, statesOf}
-use Rattle.layout.specs.Rules.{verdict}
+use Rattle.layout.specs.Rules.{dataSets, verdict}
 use Rattle.layout.specs.Faults.{NonEmpty, Byte, Fixed, Variable, NumbersFit}
 use Rattle.layout.specs.Records.{variableLengths, lengths, recordAt, recordLength, recordPart, records}
-use Rattle.layout.specs.Order.{sorted, select, nonEmptyAt, startAt, nonEmptySets, fileOrder, before, rank, recordsAt, recordsInOrder}
+use Rattle.layout.specs.Order.{sorted, select, startAt, nonEmptySets, fileOrder, before, rank, recordsAt, recordsInOrder}
 use Rattle.layout.proofs.Laws.{lt-or-le, join-append}
 use Rattle.layout.proofs.Chain.{Pairs, In, Apart, Inside, Chain, chain, joined, chain-joined, tally, sorted-all, sorted-some, sorted-pairs, sorted-sorted, sorted-count, starting-before, ranks}
 use Rattle.layout.proofs.Tests.{nonEmpty-T, nonEmpty-extent, variable-T}
@@ -91,6 +93,12 @@ module _ (t : ℕ → Bool) where
           → tally u (cond v (lo ∷ select t (upto (suc lo) n)) (select t (upto (suc lo) n))) ≡ cond (v && u lo) 1 0 + count (λ j. t j && u j) (suc lo) n
       go true below = rw below
       go false below = rw below (omega arith)
+
+-- all of a list
+tally-all : {A : Type 0} (xs : List A) → tally (λ _. true) xs ≡ length xs
+unfolding tally
+tally-all [] = refl
+tally-all (x ∷ xs) = rw (tally-all xs) (omega arith)
 
 -- ---- records joined
 
@@ -228,6 +236,18 @@ module _ (b : List ℕ) (m : Sound b) where
 
   pub only-sets-in-order : All (λ i. (i < length ds) × NonEmpty (at ds i)) (fileOrder ds)
   only-sets-in-order = all-in-order (λ i. (i < length ds) × NonEmpty (at ds i)) (λ i l h. (l, h))
+
+  -- and NUM_DATA_SETS is how many there are
+  pub sets-counted : whole (numDataSets b) ≡ pos (length (fileOrder ds))
+  unfolding dataSets fileOrder startAt nonEmptySets
+  sets-counted =
+      m .headed .counted
+      ∙ ap pos (sym (
+      sym (tally-all (sorted from (nonEmptySets ds)))
+      ∙ sorted-count from (λ _. true) (nonEmptySets ds)
+      ∙ tally-select (nonEmptyAt ds) (λ _. true) (length ds) 0
+      ∙ ap (λ (t : ℕ → Bool). count t 0 (length ds)) (fun-ext (λ i. and-true (nonEmptyAt ds i)))
+      ))
 
 -- ---- which record of a set
 

@@ -125,6 +125,9 @@ called (x ∷ xs) (y ∷ ys) = eqb x y && called xs ys
 unfoldable pub nonEmpty : Entry → Bool
 nonEmpty e = isData e && ltZ (pos 0) (whole (e .size))
 
+unfoldable pub nonEmptyAt : List Entry → ℕ → Bool
+nonEmptyAt ds i = nonEmpty (at ds i)
+
 -- where a set starts, and its bytes
 unfoldable pub start : Entry → ℕ
 start e = e .offset .magnitude

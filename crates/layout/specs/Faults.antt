@@ -230,9 +230,9 @@ module _ (b : List ℕ) (n : ℕ) where
   abbrev pub Fault10 : ℕ → ℕ → Type 0
   Fault10 p e = (e < entries b) × ((NumbersFit (entryAt b e) → ⊥) × (p ≡ dsdAt b e))
 
-  -- NUM_DATA_SETS is not the number of entries of type M, A or G
+  -- NUM_DATA_SETS is not the number of entries of type M, A or G whose DS_SIZE is above 0 (document 02, order 4)
   abbrev pub Fault11 : ℕ → ℕ → Type 0
-  Fault11 p e = ((m : ℕ) → HowMany IsData (directory b) m → whole (numDataSets b) ≡ pos m → ⊥) × At p e 1194 none
+  Fault11 p e = ((m : ℕ) → HowMany NonEmpty (directory b) m → whole (numDataSets b) ≡ pos m → ⊥) × At p e 1194 none
 
 -- ---- the sets: a directory, where the headers end, and the length
 

@@ -12,7 +12,7 @@ use Rattle.layout.specs.Text.{Line, whole, layout}
 use Rattle.layout.specs.Lines.{mph, dsd, spareDsd}
 use Rattle.layout.specs.Answer.{Answer, none, need, where′, _⇒_, _orElse_}
 use Rattle.layout.specs.Search.{first, some, count, laidOut}
-use Rattle.layout.specs.Entries.{Entry, withinZ, eqZ, largestSigned, totSize, sphSize, numDsd, dsdSize, numDataSets, headersEnd, entries, dsdAt, dsdBytes, entryAt, directory, at, nonEmpty, start, extent, holds, shares, isData, kindOf, isVariable, numbersFit}
+use Rattle.layout.specs.Entries.{Entry, withinZ, eqZ, largestSigned, totSize, sphSize, numDsd, dsdSize, numDataSets, headersEnd, entries, dsdAt, dsdBytes, entryAt, directory, at, nonEmpty, nonEmptyAt, start, extent, holds, shares, kindOf, isVariable, numbersFit}
 use Rattle.layout.specs.Sph.{sphLines, line, lineBegins}
 use Rattle.layout.specs.States.{Tally, isStatesAt, statesEntry, stateAt, statesOf, tallyOf, ofKind}
 
@@ -82,12 +82,9 @@ rule10At b i = need (numbersFit (entryAt b i)) 10 (dsdAt b i) i
 unfoldable pub rule10 : List ℕ → ℕ → Answer
 rule10 b n = first (rule10At b) 0 (entries b)
 
--- 11: NUM_DATA_SETS is not the number of entries of type M, A or G
-unfoldable pub isDataAt : List Entry → ℕ → Bool
-isDataAt ds i = isData (at ds i)
-
+-- 11: NUM_DATA_SETS is not the number of entries of type M, A or G whose DS_SIZE is above 0 (document 02, order 4)
 unfoldable pub dataSets : List Entry → ℕ
-dataSets ds = count (isDataAt ds) 0 (length ds)
+dataSets ds = count (nonEmptyAt ds) 0 (length ds)
 
 unfoldable pub rule11 : List ℕ → ℕ → Answer
 rule11 b n = need (eqZ (whole (numDataSets b)) (pos (dataSets (directory b)))) 11 1194 none

@@ -10,8 +10,8 @@ use lib.IntN.{pos}
 use lib.ListN.{length}
 use borrow.Author.Needs.{needs}
 use Rattle.layout.specs.Search.{find, count, upto}
-use Rattle.layout.specs.Entries.{entriesFrom}
-use Rattle.layout.specs.Rules.{isDataAt, dataSets}
+use Rattle.layout.specs.Entries.{entriesFrom, nonEmptyAt}
+use Rattle.layout.specs.Rules.{dataSets}
 use Rattle.layout.specs.Text.{whole}
 use Rattle.layout.specs.Answers.{padded, typeOf, countOf, recordSizeOf}
 use Rattle.layout.proofs.Sound.{length-entries}
@@ -33,7 +33,7 @@ Inv-loop p from n types₀ offsets₀ sizes₀ counts₀ record-sizes₀ roles�
     × (within ≡ find (overAt (entriesFrom p from n)) 0 i)
     × (fitting ≡ find (unfitAt (entriesFrom p from n)) 0 i)
     × (counted ≤ i)
-    × (counted ≡ count (isDataAt (entriesFrom p from n)) 0 i)
+    × (counted ≡ count (nonEmptyAt (entriesFrom p from n)) 0 i)
     × (types ≡ padded 128 0 (map (of-entry typeOf 0 p from n) (upto 0 i)))
     × (offsets ≡ padded 128 0 (map (of-entry heldStart 0 p from n) (upto 0 i)))
     × (sizes ≡ padded 128 0 (map (of-entry heldExtent 0 p from n) (upto 0 i)))
@@ -55,7 +55,7 @@ loop-holds c =
       none-found (overAt (entriesFrom b from n)),
       none-found (unfitAt (entriesFrom b from n)),
       omega arith,
-      none-counted (isDataAt (entriesFrom b from n)),
+      none-counted (nonEmptyAt (entriesFrom b from n)),
       ap (λ (s : Sets). s .types) zeros ∙ none-held (of-entry typeOf 0 b from n) 0,
       ap (λ (s : Sets). s .offsets) zeros ∙ none-held (of-entry heldStart 0 b from n) 0,
       ap (λ (s : Sets). s .sizes) zeros ∙ none-held (of-entry heldExtent 0 b from n) 0,
@@ -143,7 +143,7 @@ loop-again c =
     let more : l .i < n = omega arith in
     let few : l .i < 128 = omega (arith, c .before .before .before .before .before .before .before .before .before .before .before .pre .1) in
     let is = held-is b from n (l .i) more entry (read .ensures) in
-    let counted = count-next (isDataAt (entriesFrom b from n)) (l .counted) (l .i) (l .inv .4) (l .inv .3) (c .counted-with .ensures ∙ rw (counted-is b from n (l .i) more entry (read .ensures))) in (
+    let counted = count-next (nonEmptyAt (entriesFrom b from n)) (l .counted) (l .i) (l .inv .4) (l .inv .3) (c .counted-with .ensures ∙ rw (counted-is b from n (l .i) more entry (read .ensures))) in (
       omega arith,
       row-next (overAt (entriesFrom b from n)) (l .within) (l .i) _ (l .inv .1) (over-is b from n (l .i) more entry (read .ensures) (c .before .before .before .before .over .ensures)) (c .before .before .before .row-with .ensures),
       row-next (unfitAt (entriesFrom b from n)) (l .fitting) (l .i) _ (l .inv .2) (fits-is b from n (l .i) more entry (read .ensures) (c .before .before .numbers-fit .ensures)) (c .before .row-with2 .ensures),
@@ -168,7 +168,7 @@ returns c =
     let ds = entriesFrom b from n in
     let e : l .i ≡ n = omega arith in
     let all : l .i ≡ length ds = e ∙ sym (length-entries b from n) in (
-      record { nine = l .inv .1 ∙ ap (find (overAt ds) 0) all; ten = l .inv .2 ∙ ap (find (unfitAt ds) 0) all; eleven = l .inv .4 ∙ ap (count (isDataAt ds) 0) all },
+      record { nine = l .inv .1 ∙ ap (find (overAt ds) 0) all; ten = l .inv .2 ∙ ap (find (unfitAt ds) 0) all; eleven = l .inv .4 ∙ ap (count (nonEmptyAt ds) 0) all },
       all-read b from n (all-held typeOf 0 b from n (l .i) e (l .inv .5)) (all-held heldStart 0 b from n (l .i) e (l .inv .6)) (all-held heldExtent 0 b from n (l .i) e (l .inv .7)) (all-held countOf 0 b from n (l .i) e (l .inv .8)) (all-held recordSizeOf (pos 0) b from n (l .i) e (l .inv .9)) (all-held heldRole 0 b from n (l .i) e (l .inv .10)),
     )
 
