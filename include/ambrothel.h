@@ -32,8 +32,9 @@ extern "C" {
 #endif
 
 /* This boundary's version, 10000 * major + 100 * minor + patch: a new major where an answer's words change their
- * places or a call its parameters, a new minor where something is added. */
-#define AMBROTHEL_VERSION 10000
+ * places or a call its parameters, a new minor where something is added, a new patch where a rule judges otherwise
+ * (1: refusal 11 counts no empty sets). */
+#define AMBROTHEL_VERSION 10001
 
 /* What a call returns. */
 #define AMBROTHEL_WRITTEN 0
@@ -107,7 +108,7 @@ static inline const char *ambrothel_refusal_text(uint64_t number)
         "a byte of a DSD is not as laid out",
         "DS_OFFSET's or DS_SIZE's magnitude is over 2^63 - 1",
         "a DSD's numbers do not fit together",
-        "NUM_DATA_SETS is not the number of entries of type M, A or G",
+        "NUM_DATA_SETS is not the number of entries of type M, A or G whose DS_SIZE is above 0",
         "a set starts inside the headers or ends past the product",
         "a set shares a byte with one of a lower entry",
         "a byte after the headers is in no set",

@@ -3,7 +3,7 @@
 use Prim.Native.Nat.{ℕ, _≤_, _<_}
 use mathlib.Core.Bool.{Bool, true, false, cond, _&&_, _||_, not, and-true, and-false, and-assoc}
 use mathlib.Core.Logic.{_⊎_, inl, inr}
-use mathlib.Core.Path.{_≡_, sym, ap, _∙_}
+use mathlib.Core.Path.{_≡_, sym, _∙_}
 use native.Mathlib.Omega.{arith}
 use lib.Dec.{ltb, eqb}
 use lib.IntN.{pos, negsuc}
@@ -60,11 +60,6 @@ module _ (e : Entry) (r : inRange e ≡ true) where
 -- ---- one entry
 
 module _ (e : Entry) where
-  -- a set of one byte or more, by the sign and the magnitude of its size
-  pub non-empty-by : (isData e && not (e .size .minus) && ltb 0 (e .size .magnitude)) ≡ nonEmpty e
-  unfolding nonEmpty
-  non-empty-by = and-assoc (isData e) (not (e .size .minus)) (ltb 0 (e .size .magnitude)) ∙ ap (λ (t : Bool). isData e && t) (sym (above (e .size)))
-
   pub fits-reference : e .type ≡ 82 → allZero e ≡ numbersFit e
   unfolding numbersFit isReference isData
   fits-reference h =
@@ -140,3 +135,9 @@ module _ (h : HeldEntry) where
     pub role-none : (h .«name_role» ≡ 5 → ⊥) → 0 ≡ roleOf (viewOf h)
     unfolding roleOf
     role-none n = rw (v, view-states, ne-eqb (h .«name_role») 5 n, and-false)
+
+-- ---- rule 11: a set of one byte or more, by the sign and the magnitude of its size; t says whether it is a set
+
+pub non-empty-by : (h : HeldEntry) {t : Bool} → t ≡ isData (viewOf h) → (t && not (h .size .minus) && ltb 0 (h .size .magnitude)) ≡ nonEmpty (viewOf h)
+unfolding nonEmpty viewOf numberFrom
+non-empty-by h {t} e = and-assoc t (not (h .size .minus)) (ltb 0 (h .size .magnitude)) ∙ rw (e, above (numberFrom (h .size)))

@@ -1,5 +1,5 @@
--- Document 01's table of refusals 1 to 16 as statements that a person reads: what is a fault of each rule, and at which place and entry. No test and no
--- search stands here. That the rules of `Rules` judge exactly these faults is a theorem (proofs/Exactly).
+-- Document 01's table of refusals 1 to 16, amended by document 02, as statements that a person reads: what is a fault of each rule, and at which place
+-- and entry. No test and no search stands here. That the rules of `Rules` judge exactly these faults is a theorem (proofs/Exactly).
 -- Assumes nothing.
 use Prim.Native.Nat.{ℕ, suc, _+_, _*_, _≤_, _<_}
 use Prim.Native.String.{String}

@@ -1,5 +1,5 @@
--- Layout rules 1 to 16 of document 01, each under its number, over the bytes at hand `b` and the length `n`; and the verdict: the first refusal.
--- Rules 1 to 14 look at no byte behind the headers, rules 15 and 16 at a tally of the states.
+-- Layout rules 1 to 16 of document 01, amended by document 02, each under its number, over the bytes at hand `b` and the length `n`; and the verdict:
+-- the first refusal. Rules 1 to 14 look at no byte behind the headers, rules 15 and 16 at a tally of the states.
 -- Assumes nothing.
 use Prim.Native.Nat.{ℕ, _+_, _*_, _-_}
 use mathlib.Core.Bool.{Bool, cond, _&&_, not}
