@@ -65,11 +65,6 @@ pub(crate) struct Entry {
 impl Entry {
     const NONE: Entry = Entry { set_type: 0, offset: 0, size: 0, count: 0, record_size: 0 };
 
-    /// Types M, A and G have a data set, which may be empty.
-    pub fn has_set(&self) -> bool {
-        matches!(self.set_type, b'M' | b'A' | b'G')
-    }
-
     /// Whether bytes of the product belong to this entry (rule 10 leaves R and spares none).
     pub fn is_filled(&self) -> bool {
         self.size > 0
@@ -81,7 +76,8 @@ impl Entry {
     }
 }
 
-/// Rules 8 to 11; answers the entries of the directory, in order.
+/// Rules 8 to 11; answers the entries of the directory, in order. Rule 11 is as order 4 of document 02 has it:
+/// empty sets are not counted.
 pub(crate) fn check_descriptors(product: &[u8], sizes: &HeaderSizes) -> Result<Vec<Entry>, Refusal> {
     let (descriptors, _) = product[sizes.lines_end..sizes.headers_end].as_chunks();
     let entries = read_descriptors(descriptors, sizes.lines_end)?;
@@ -91,7 +87,7 @@ pub(crate) fn check_descriptors(product: &[u8], sizes: &HeaderSizes) -> Result<V
             let place = sizes.lines_end + entry * DESCRIPTOR_SIZE;
             return Err(Refusal::of_entry(10, place as u64, entry));
         }
-        sets += i64::from(values.has_set());
+        sets += i64::from(values.is_filled());
     }
     if sizes.data_sets != sets {
         return Err(Refusal::without_entry(11, NUM_DATA_SETS_PLACE));

@@ -106,8 +106,10 @@ impl EntryDescription {
         self
     }
 
-    fn has_set(&self) -> bool {
-        matches!(self.set_type, b'M' | b'A' | b'G')
+    /// Whether NUM_DATA_SETS counts the entry: M, A or G, and DS_SIZE as it will be written is above 0.
+    fn is_counted(&self) -> bool {
+        let [_, size, ..] = self.numbers(0);
+        matches!(self.set_type, b'M' | b'A' | b'G') && !size.minus && size.magnitude > 0
     }
 
     /// Offset, size, count and record size as they will be written.
@@ -167,8 +169,9 @@ impl Description {
         self.headers_end() + sets + self.after.len()
     }
 
+    /// The data sets, empty ones left out (document 02, order 4).
     pub(super) fn data_sets(&self) -> usize {
-        self.entries.iter().filter(|entry| entry.has_set()).count()
+        self.entries.iter().filter(|entry| entry.is_counted()).count()
     }
 
     /// Gives the sets offsets one after another in this order of entries.

@@ -216,19 +216,82 @@ fn only_four_names_of_type_m_are_variable_sets() {
     assert_eq!(verdict_on(&ordinary), Verdict::Accepted);
 }
 
-#[test]
-fn rule_11_counts_empty_sets_but_not_r_and_spares() {
-    let mut description = Description::new(vec![
-        EntryDescription::spare(),
-        EntryDescription::new(b'R', "FILE", Vec::new()),
-        EntryDescription::new(b'M', "NOT USED", Vec::new()),
-        EntryDescription::new(b'A', "STATES", Vec::new()),
-        demo(),
-    ]);
-    assert_eq!(verdict_on(&description), Verdict::Accepted);
-    for count in [0, 1, 2, 4, 5, -3] {
+/// The verdict on entries with each of these NUM_DATA_SETS is the same.
+fn expect_with_counts(entries: &[EntryDescription], counts: &[Number], expected: Verdict) {
+    for &count in counts {
+        let mut description = Description::new(entries.to_vec());
         description.set_number("NUM_DATA_SETS", count);
-        assert_eq!(verdict_on(&description), refused(11, 1194, NONE), "{count}");
+        assert_eq!(verdict_on(&description), expected, "{count:?}");
+    }
+}
+
+fn numbers<const N: usize>(values: [i128; N]) -> [Number; N] {
+    values.map(Number::from)
+}
+
+/// An empty set with this DS_SIZE.
+fn empty(set_type: u8, size: Number) -> EntryDescription {
+    let mut entry = EntryDescription::new(set_type, "NOT USED", Vec::new());
+    entry.size = Some(size);
+    entry
+}
+
+const ZEROS: [Number; 2] = [Number { minus: false, magnitude: 0 }, Number::MINUS_ZERO];
+const REFUSED_BY_11: Verdict = Verdict::Refused { number: 11, place: 1194, entry: NONE };
+
+/// Order 4 of document 02.
+#[test]
+fn rule_11_does_not_count_an_empty_set() {
+    for set_type in *b"MAG" {
+        for size in ZEROS {
+            for entries in [[demo(), empty(set_type, size)], [empty(set_type, size), demo()]] {
+                expect_with_counts(&entries, &numbers([1]), Verdict::Accepted);
+                expect_with_counts(&entries, &numbers([2, 0, 3, -1, -2]), REFUSED_BY_11);
+            }
+        }
+    }
+}
+
+#[test]
+fn rule_11_counts_none_where_all_sets_are_empty() {
+    for size in ZEROS {
+        let entries = b"MAG".map(|set_type| empty(set_type, size));
+        expect_with_counts(&entries, &ZEROS, Verdict::Accepted);
+        expect_with_counts(&entries, &numbers([1, 2, 3, -3]), REFUSED_BY_11);
+    }
+}
+
+#[test]
+fn rule_11_never_counts_r_and_spares() {
+    for size in ZEROS {
+        let mut entries = vec![EntryDescription::spare(), empty(b'R', size)];
+        expect_with_counts(&entries, &ZEROS, Verdict::Accepted);
+        expect_with_counts(&entries, &numbers([1, 2, -1]), REFUSED_BY_11);
+        entries.extend([demo(), empty(b'M', size), demo()]);
+        entries[4].set_type = b'A';
+        expect_with_counts(&entries, &numbers([2]), Verdict::Accepted);
+        expect_with_counts(&entries, &numbers([0, 1, 3, 4, 5, -2]), REFUSED_BY_11);
+    }
+}
+
+#[test]
+fn rule_11_counts_a_set_of_one_byte() {
+    let entries = b"MAG".map(|set_type| EntryDescription::new(set_type, "DEMO", vec![7]));
+    expect_with_counts(&entries, &numbers([3]), Verdict::Accepted);
+    expect_with_counts(&entries, &numbers([0, 1, 2, 4]), REFUSED_BY_11);
+}
+
+/// A DS_SIZE below 0, and an empty set with records, are rule 10's, whatever NUM_DATA_SETS says.
+#[test]
+fn rule_10_comes_before_the_count() {
+    for size in [-1, -15, -i128::from(i64::MAX)] {
+        let entries = [demo(), empty(b'G', Number::from(size))];
+        expect_with_counts(&entries, &numbers([0, 1, 2]), refused(10, 1527, 1));
+    }
+    for size in ZEROS {
+        let mut entries = [demo(), empty(b'G', size)];
+        entries[1].count = number(1);
+        expect_with_counts(&entries, &numbers([0, 1, 2]), refused(10, 1527, 1));
     }
 }
 

@@ -1,5 +1,5 @@
-//! Rules 1 to 16 once more, each as document 01 words it, byte by byte and without care for speed, and
-//! compared with the reader on random products.
+//! Rules 1 to 16 once more, each as document 01 words it (rule 11 as order 4 of document 02 does), byte by byte
+//! and without care for speed, and compared with the reader on random products.
 
 use crate::common::{refused, NONE};
 use crate::{descriptors, header_text, sets, sph_lines};
@@ -90,8 +90,8 @@ fn rules_8_to_11(product: &[u8], starts: &[usize], template: &[u8]) -> Result<Ve
     if let Some(entry) = list.iter().position(|values| !rule_10(values)) {
         return Err(refused(10, list[entry].place as u64, entry));
     }
-    let sets = list.iter().filter(|values| b"MAG".contains(&values.set_type)).count();
-    match sets::number_at(product, 1194, 10) == sets as i128 {
+    let is_counted = |values: &&Listed| b"MAG".contains(&values.set_type) && values.numbers[1] > 0;
+    match sets::number_at(product, 1194, 10) == list.iter().filter(is_counted).count() as i128 {
         true => Ok(list),
         false => Err(refused(11, 1194, NONE)),
     }
