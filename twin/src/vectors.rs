@@ -7,7 +7,7 @@ use crate::words::{entry_words, Answer, Call};
 use crate::LONGEST_LISTED;
 
 /// The products whose text is stored, in its order.
-pub const VECTOR_PRODUCTS: [&str; 28] = [
+pub const VECTOR_PRODUCTS: [&str; 31] = [
     "case-b",
     "case-k",
     "case-l",
@@ -34,6 +34,9 @@ pub const VECTOR_PRODUCTS: [&str; 28] = [
     "every-entry-form",
     "unequal-lengths",
     "minus-zeros",
+    "empty-set-uncounted",
+    "empty-set-counted",
+    "all-sets-empty",
     "listed-last",
     "listed-no-more",
 ];

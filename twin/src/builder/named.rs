@@ -44,7 +44,7 @@ const LARGEST: u64 = i64::MAX as u64;
 const TOO_LARGE: Number = Number { minus: false, magnitude: 1 << 63 };
 
 /// The named products but those of [`CATALOGUE_NAMES`], which are all accepted, and `wrapping-states`.
-pub const NAMED_PRODUCTS: [NamedProduct; 54] = [
+pub const NAMED_PRODUCTS: [NamedProduct; 57] = [
     accepted("case-a", case_a),
     accepted("case-b", case_b),
     refused("case-c", case_c, (12, 1526, 0)),
@@ -96,6 +96,9 @@ pub const NAMED_PRODUCTS: [NamedProduct; 54] = [
     ),
     accepted("minus-zeros", minus_zeros),
     accepted("every-entry-form", every_entry_form),
+    accepted("empty-set-uncounted", || demo_and_empty_set(1)),
+    refused("empty-set-counted", || demo_and_empty_set(2), (11, 1194, NO_ENTRY)),
+    accepted("all-sets-empty", all_sets_empty),
     refused("wrapping-records", wrapping_records, (10, 1247, 0)),
     refused("wrapping-set-end", wrapping_set_end, (12, LARGEST, 0)),
     refused("two-overlaps", two_overlaps, (13, 2382, 2)),
@@ -310,6 +313,23 @@ fn every_entry_form() -> Vec<u8> {
         EntryDescription::spare(),
     ])
     .build()
+}
+
+/// Case B's set and an empty one, with this NUM_DATA_SETS: one set is right (document 02, order 4).
+fn demo_and_empty_set(data_sets: i128) -> Vec<u8> {
+    let empty = EntryDescription::new(b'G', "DEMO", Vec::new());
+    let mut description = Description::new(vec![demo_records(), empty]);
+    description.set_number("NUM_DATA_SETS", data_sets);
+    description.build()
+}
+
+/// An empty set of each type, the last with DS_SIZE -0; NUM_DATA_SETS is 0.
+fn all_sets_empty() -> Vec<u8> {
+    let mut entries = b"MAG".map(|set_type| EntryDescription::new(set_type, "DEMO", Vec::new()));
+    entries[2].size = Some(Number::MINUS_ZERO);
+    let mut description = Description::new(entries.to_vec());
+    description.set_number("NUM_DATA_SETS", 0);
+    description.build()
 }
 
 fn wrapping_records() -> Vec<u8> {
