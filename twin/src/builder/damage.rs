@@ -52,10 +52,7 @@ impl Generator {
             7 => self.damage_lines(description),
             9 => self.damage_magnitudes(description),
             10 => self.damage_numbers(description),
-            11 => {
-                let number = self.near(description.data_sets() as i128);
-                description.set_number("NUM_DATA_SETS", number);
-            }
+            11 => self.damage_count_of_sets(description),
             12 | 13 => self.damage_offset(description, aim),
             14 => self.damage_filling(description),
             15 => self.damage_states(description),
@@ -152,8 +149,7 @@ impl Generator {
         let place = self.choose(&places);
         let bad = self.choose(&BAD);
         description.sph_lines.splice(place..place, bad.iter().copied());
-        let order: Vec<usize> = (0..description.entries.len()).collect();
-        description.place_in_order(&order);
+        description.place_in_entry_order();
     }
 
     /// An entry that has a non-empty set, made if there is none.
@@ -195,6 +191,30 @@ impl Generator {
         }
     }
 
+    /// Counts most often the empty sets too, as before order 4 of document 02; otherwise the R entries too, or some
+    /// sets too many or too few.
+    fn damage_count_of_sets(&mut self, description: &mut Description) {
+        let right = description.data_sets() as i128;
+        let number = match self.below(6) {
+            0 => self.near(right),
+            1 => Number::from(right + description.entries_of(b"R") as i128),
+            _ => {
+                self.provide_empty_set(description);
+                Number::from(description.entries_of(b"MAG") as i128)
+            }
+        };
+        description.set_number("NUM_DATA_SETS", number);
+    }
+
+    /// Puts an empty set in if there is none.
+    fn provide_empty_set(&mut self, description: &mut Description) {
+        if description.entries_of(b"MAG") == description.data_sets() {
+            let set_type = self.choose(b"MAG");
+            description.entries.push(self.empty_entry(set_type, "DEMO"));
+            description.place_in_entry_order();
+        }
+    }
+
     fn damage_offset(&mut self, description: &mut Description, aim: u8) {
         let (start, length) = (description.headers_end() as i128, description.length() as i128);
         let room = (length - start).max(1) as u64;
@@ -230,8 +250,7 @@ impl Generator {
             let list = [4, 5].map(|length| StateDescription::new(0, kind as u8 + 1, 1, length));
             description.entries.push(EntryDescription::states(&list));
             description.entries.push(EntryDescription::variable(VARIABLE_NAMES[kind], 2, 9));
-            let order: Vec<usize> = (0..description.entries.len()).collect();
-            description.place_in_order(&order);
+            description.place_in_entry_order();
         }
         let place = description.entries.iter().position(is_states).unwrap_or(0);
         &mut description.entries[place]
@@ -252,8 +271,7 @@ impl Generator {
             3 => {
                 let another = EntryDescription::new(b'A', "STATES", Vec::new());
                 description.entries.push(another);
-                let order: Vec<usize> = (0..description.entries.len()).collect();
-                description.place_in_order(&order);
+                description.place_in_entry_order();
             }
             4 => entry.data[record + 12] = byte,
             5 => entry.data[record + 1116] = byte,

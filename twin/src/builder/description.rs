@@ -174,6 +174,17 @@ impl Description {
         self.entries.iter().filter(|entry| entry.is_counted()).count()
     }
 
+    /// How many entries have one of these types.
+    pub(super) fn entries_of(&self, types: &[u8]) -> usize {
+        self.entries.iter().filter(|entry| types.contains(&entry.set_type)).count()
+    }
+
+    /// Gives the sets offsets one after another in the order of their entries.
+    pub(super) fn place_in_entry_order(&mut self) {
+        let order: Vec<usize> = (0..self.entries.len()).collect();
+        self.place_in_order(&order);
+    }
+
     /// Gives the sets offsets one after another in this order of entries.
     pub fn place_in_order(&mut self, order: &[usize]) {
         let mut place = self.headers_end();

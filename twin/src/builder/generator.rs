@@ -229,7 +229,8 @@ impl Generator {
         entry
     }
 
-    fn empty_entry(&mut self, set_type: u8, name: &str) -> EntryDescription {
+    /// An R entry or an empty set; some of its zeros are written with a minus.
+    pub(super) fn empty_entry(&mut self, set_type: u8, name: &str) -> EntryDescription {
         let mut entry = EntryDescription::new(set_type, name, Vec::new());
         entry.offset = Some(self.zero());
         entry.size = Some(self.zero());

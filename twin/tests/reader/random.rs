@@ -36,7 +36,8 @@ fn joined(product: &[u8]) -> Vec<u8> {
 #[test]
 fn good_products_are_accepted_and_join_to_themselves() {
     let mut generator = Generator::new(seed());
-    let (mut small, mut variable, mut of_128_entries, mut of_longest_sph) = (0, 0, 0, 0);
+    let (mut small, mut variable, mut with_empty_set) = (0, 0, 0);
+    let (mut of_128_entries, mut of_longest_sph) = (0, 0);
     for _ in 0..20_000 {
         let product = generator.good();
         assert_eq!(judge(&product), Verdict::Accepted, "{}", product.escape_ascii());
@@ -45,10 +46,13 @@ fn good_products_are_accepted_and_join_to_themselves() {
         let listed = directory(&product).unwrap();
         let is_variable = |entry: usize| listed.sizes[entry] > 0 && listed.record_sizes[entry] == -1;
         variable += usize::from((0..128).any(is_variable));
+        let is_empty = |entry: usize| b"MAG".contains(&listed.types[entry]) && listed.sizes[entry] == 0;
+        with_empty_set += usize::from((0..128).any(is_empty));
         of_128_entries += usize::from(listed.entry_count == 128);
         of_longest_sph += usize::from(header_values(&product).unwrap().sph_size == 49_152);
     }
     assert!(small > 15_000 && variable > 3000, "{small} {variable}");
+    assert!(with_empty_set > 4000, "{with_empty_set}");
     assert!(of_128_entries > 20 && of_longest_sph > 20, "{of_128_entries} {of_longest_sph}");
 }
 
