@@ -1,6 +1,7 @@
 //! The proved library beside the twin: every public call asked of both, and what they write compared.
 
 mod comparing;
+mod header_numbers;
 pub mod library;
 mod mapping;
 mod met;
@@ -10,6 +11,7 @@ mod rooms;
 mod shares;
 
 pub use comparing::Comparer;
+pub use header_numbers::{header_ends, number_fields, NumberField};
 pub use mapping::Mapping;
 pub use met::{ByNumber, Met};
 pub use report::report_of_product;

@@ -1,9 +1,9 @@
 //! Every byte of the headers, and every byte of a state that a rule looks at, replaced in turn.
 
-use compare::Comparer;
+use compare::{header_ends, Comparer};
 use twin::builder::{Description, EntryDescription};
 
-use crate::common::{choices, header_ends, product};
+use crate::common::{choices, product};
 
 /// Bytes of each class that a layout tells apart, and their neighbours.
 const CLASSES: [u8; 24] = [

@@ -1,10 +1,10 @@
 //! Every number of the main header and of the DSDs set to its edges.
 
-use compare::Comparer;
+use compare::{header_ends, number_fields, Comparer, NumberField};
 use twin::builder::Number;
 use twin::words::Call;
 
-use crate::common::{choices, header_ends, number_fields, product, NumberField};
+use crate::common::{choices, product};
 
 /// The edges of a number with a field of so many digits, and what lies beside its value.
 fn edges(field: &NumberField, value: i128) -> Vec<Number> {
