@@ -76,7 +76,7 @@ impl Comparer {
         if returned != WRITTEN || !same {
             self.fail(product, call, lengths, returned, Some(answer));
         }
-        self.met.count(call, answer);
+        self.met.count(product, call, answer);
     }
 
     /// Asks the library, lending rooms of these lengths, one of them too short.

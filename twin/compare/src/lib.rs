@@ -1,6 +1,7 @@
 //! The proved library beside the twin: every public call asked of both, and what they write compared.
 
 mod comparing;
+mod empty_sets;
 mod header_numbers;
 pub mod library;
 mod mapping;

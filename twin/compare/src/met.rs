@@ -1,6 +1,9 @@
-//! What was met in the answers that both gave: how many were refused by which number, and the largest products.
+//! What was met in the answers that both gave: how many were refused by which number, both sides of the count of
+//! sets, and the largest products.
 
 use twin::words::{Answer, Call};
+
+use crate::empty_sets::{counts_empty_sets, has_empty_set};
 
 /// Where SPH_SIZE stands in the words of the header values.
 pub(crate) const SPH_SIZE_WORD: usize = 21;
@@ -17,19 +20,27 @@ pub struct Met {
     /// Of these the verdicts on products.
     pub verdicts: ByNumber,
     pub points_answered: u64,
+    /// Products with an empty set: accepted ones, whose NUM_DATA_SETS leaves it out, and those that are refused 11
+    /// only because theirs does not.
+    pub empty_sets_left_out: u64,
+    pub empty_sets_counted: u64,
     /// Of the accepted products.
     pub most_entries: u64,
     pub longest_sph: u64,
 }
 
 impl Met {
-    pub(crate) fn count(&mut self, call: Call, answer: &Answer) {
+    pub(crate) fn count(&mut self, product: &[u8], call: Call, answer: &Answer) {
         let number = answer.words[0] as usize;
         match call {
             Call::SphPart | Call::RecordPart { .. } => return,
-            Call::Judge => self.verdicts[number] += 1,
+            Call::Judge => {
+                self.verdicts[number] += 1;
+                self.empty_sets_counted += u64::from(number == 11 && counts_empty_sets(product));
+            }
             Call::OpenDirectory => {
-                self.most_entries = self.most_entries.max(answer.words[ENTRIES_WORD])
+                self.empty_sets_left_out += u64::from(has_empty_set(answer));
+                self.most_entries = self.most_entries.max(answer.words[ENTRIES_WORD]);
             }
             Call::HeaderValues => self.longest_sph = self.longest_sph.max(answer.words[SPH_SIZE_WORD]),
             Call::PointAt { .. } => self.points_answered += u64::from(number == 0),
@@ -46,6 +57,8 @@ impl Met {
         add(&mut self.answers, &other.answers);
         add(&mut self.verdicts, &other.verdicts);
         self.points_answered += other.points_answered;
+        self.empty_sets_left_out += other.empty_sets_left_out;
+        self.empty_sets_counted += other.empty_sets_counted;
         self.most_entries = self.most_entries.max(other.most_entries);
         self.longest_sph = self.longest_sph.max(other.longest_sph);
         self

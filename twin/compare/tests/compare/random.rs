@@ -29,6 +29,8 @@ fn assert_met(met: &Met, products: u64) {
         assert!(met.answers[number] >= products / 10, "refusal {number}: {seen}");
     }
     assert!(met.points_answered >= products / 20, "points answered: {seen}");
+    assert!(met.empty_sets_left_out >= products / 100, "empty sets left out: {seen}");
+    assert!(met.empty_sets_counted >= products / 100, "empty sets counted: {seen}");
     if products >= ENOUGH {
         assert_eq!(met.most_entries, 128, "the most entries: {seen}");
         assert!(met.longest_sph >= 40_000, "the longest SPH: {seen}");
