@@ -1,5 +1,5 @@
-//! A reader of Envisat products by document 01: it checks a product, lists it, answers its header
-//! values, and hands out SPH lines, records, fields and points. Every call judges the product first.
+//! A reader of Envisat products by document 01 and the orders of document 02: it checks a product, lists it, answers
+//! its header values, and hands out SPH lines, records, fields and points. Every call judges the product first.
 
 pub mod builder;
 mod descriptors;
