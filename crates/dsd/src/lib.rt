@@ -107,7 +107,7 @@ impl Entry {
     }
 
     // Type M, A or G.
-    pub fn is_data(self) -> bool
+    fn is_data(self) -> bool
         ensures { λ r. ⌜ r ≡ isData (viewOf self) ⌝ }
     {
         if self.ds_type == b'M' {

@@ -125,6 +125,7 @@ called (x ∷ xs) (y ∷ ys) = eqb x y && called xs ys
 unfoldable pub nonEmpty : Entry → Bool
 nonEmpty e = isData e && ltZ (pos 0) (whole (e .size))
 
+-- the same of entry i
 unfoldable pub nonEmptyAt : List Entry → ℕ → Bool
 nonEmptyAt ds i = nonEmpty (at ds i)
 
