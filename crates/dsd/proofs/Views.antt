@@ -1,17 +1,16 @@
 -- What is held of an entry against the entry itself, where rule 9 holds of it.
 -- Assumes nothing.
-use Prim.Native.Nat.{ℕ, _≤_, _<_}
+use Prim.Native.Nat.{ℕ, _≤_}
 use mathlib.Core.Bool.{Bool, true, false, cond}
 use mathlib.Core.List.{List, []}
-use mathlib.Core.Logic.{_⊎_, inl, inr}
 use mathlib.Core.Path.{_≡_, refl, sym, ap, _∙_}
 use native.Mathlib.Omega.{arith}
 use lib.Dec.{leb, ltb}
-use borrow.Author.Tests.{le-leb, lt-leb, leb-true, lt-ltb, le-ltb}
+use borrow.Author.Tests.{leb-true}
 use Rattle.layout.specs.Text.{whole}
 use Rattle.layout.specs.Entries.{Entry, largestSigned, start, extent, kindOf, isData, nonEmpty, isReference, isVariable, isStates, allZero, inRange, isFixed, setFits, numbersFit}
 use Rattle.layout.specs.Answers.{typeOf, countOf, recordSizeOf}
-use Rattle.layout.proofs.Laws.{lt-or-le}
+use Rattle.layout.proofs.Laws.{leb-not, ltb-same}
 use Rattle.text.specs.Numbers.{capped, wholeIn}
 use Rattle.dsd.specs.declared.Entry.{Entry as HeldEntry}
 use Rattle.dsd.specs.Held.{nameRole, nameText, numberFrom, heldOf, viewOf, overPlace, roleOf}
@@ -20,21 +19,13 @@ use Rattle.dsd.proofs.Names.{kind-role, states-by-role, role-again}
 
 -- ---- numbers held at 2^63
 
-pub capped-test : (m : ℕ) → leb (capped m) largestSigned ≡ leb m largestSigned
+-- what is held is above k where the number is, for k below 2^63
+capped-above : (k m : ℕ) → k ≤ largestSigned → ltb k (capped m) ≡ ltb k m
 unfolding capped
-capped-test m = go (lt-or-le largestSigned m)
-  where
-    go : (largestSigned < m) ⊎ (m ≤ largestSigned) → leb (capped m) largestSigned ≡ leb m largestSigned
-    go (inl h) = rw (lt-leb m largestSigned h) (lt-leb (capped m) largestSigned (omega arith))
-    go (inr h) = rw (le-leb m largestSigned h) (le-leb (capped m) largestSigned (omega arith))
+capped-above k m l = ltb-same k (capped m) k m (λ h. omega arith) (λ h. omega arith)
 
-capped-filled : (m : ℕ) → ltb 0 (capped m) ≡ ltb 0 m
-unfolding capped
-capped-filled m = go (lt-or-le 0 m)
-  where
-    go : (0 < m) ⊎ (m ≤ 0) → ltb 0 (capped m) ≡ ltb 0 m
-    go (inl h) = rw (lt-ltb 0 m h) (lt-ltb 0 (capped m) (omega arith))
-    go (inr h) = rw (le-ltb 0 m h) (le-ltb 0 (capped m) (omega arith))
+pub capped-test : (m : ℕ) → leb (capped m) largestSigned ≡ leb m largestSigned
+capped-test m = rw (leb-not (capped m) largestSigned, leb-not m largestSigned, capped-above largestSigned m (omega arith))
 
 capped-same : (m : ℕ) → leb (capped m) largestSigned ≡ true → capped m ≡ m
 unfolding capped
@@ -52,7 +43,7 @@ over-held e = rw (capped-test (e .offset .magnitude), capped-test (e .size .magn
 -- a set of one byte or more is held as one, whatever its size is held at
 pub held-nonEmpty : (e : Entry) → nonEmpty (viewOf (heldOf e)) ≡ nonEmpty e
 unfolding nonEmpty isData viewOf heldOf numberFrom
-held-nonEmpty e = rw (above (numberFrom (heldOf e .size)), above (e .size), capped-filled (e .size .magnitude))
+held-nonEmpty e = rw (above (numberFrom (heldOf e .size)), above (e .size), capped-above 0 (e .size .magnitude) (omega arith))
 
 -- ---- the entry under another name
 

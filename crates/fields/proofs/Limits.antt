@@ -1,25 +1,18 @@
 -- The limits of an angle, as the machine tests them. Assumes nothing.
 use mathlib.Core.Path.{_≡_, refl, sym, ap, _∙_}
-use mathlib.Core.Bool.{Bool, true, false, not}
-use Prim.Native.Nat.{ℕ, zero, suc, _-_, _^_, _≤_, _<_}
+use mathlib.Core.Bool.{true, false, not}
+use Prim.Native.Nat.{ℕ, zero, suc, _^_, _≤_, _<_}
 use native.Mathlib.Omega.{arith}
-use borrow.Author.Tests.{lt-ltb, le-leb, lt-leb, ltb-true, ltb-false}
-use lib.Dec.{leb, ltb}
+use borrow.Author.Tests.{lt-ltb}
 use lib.IntN.{ℤ, pos, negsuc, negℤ, _-ℤ_}
 use lib.Signed.{mag, leZ, ltZ}
 use mir.Syntax.{w64}
 use mir.Val.{toZ, SFits}
 use mir.Facts.{toZ-pos}
 use Rattle.layout.specs.Fields.{inLimits}
+use Rattle.layout.proofs.Laws.{leb-not}
 
 -- at most is not above
-leb-not : (a b : ℕ) → leb a b ≡ not (ltb b a)
-leb-not a b = go (ltb b a) refl
-  where
-    go : (t : Bool) → ltb b a ≡ t → leb a b ≡ not t
-    go true e = lt-leb a b (ltb-true b a e)
-    go false e = le-leb a b (ltb-false b a e)
-
 leZ-not : (a b : ℤ) → leZ a b ≡ not (ltZ b a)
 leZ-not (pos a) (pos b) = leb-not a b
 leZ-not (pos a) (negsuc b) = refl

@@ -8,11 +8,11 @@ use mathlib.Core.Path.{_≡_, refl, sym, ap, _∙_, subst}
 use native.Mathlib.Omega.{arith}
 use native.Mathlib.Nat.{add-zero, zero-add, add-suc, suc-add, le-of-suc-le-suc, not-suc-le-zero}
 use native.Mathlib.Numerals.{add-one}
-use lib.Dec.{T, leb, eqb, leb→le, le→leb, eqb→eq, eqb-refl, T-not, not-T}
+use lib.Dec.{T, leb, ltb, eqb, leb→le, le→leb, eqb→eq, eqb-refl, T-not, not-T}
 use lib.IntN.{ℤ, pos, negsuc}
 use lib.Signed.{leZ, ltZ, _≤ℤ_, _<ℤ_}
 use lib.ListN.{length, take, drop, getD}
-use borrow.Author.Tests.{leb-true, leb-false, eq-eqb, ne-eqb}
+use borrow.Author.Tests.{leb-true, leb-false, ltb-true, ltb-false, le-leb, lt-leb, lt-ltb, le-ltb, eq-eqb, ne-eqb}
 use Rattle.layout.specs.Text.{Class, fits}
 use Rattle.layout.specs.Answer.{Answer, accepted, refused, need, where′, _orElse_}
 use Rattle.layout.specs.Search.{first, some, count, find, laidOut, upto, join}
@@ -28,6 +28,22 @@ lt-or-le a b = go (leb (suc a) b) refl
 pub not-not : (t : Bool) → not (not t) ≡ t
 not-not true = refl
 not-not false = refl
+
+-- at most is not above
+pub leb-not : (a b : ℕ) → leb a b ≡ not (ltb b a)
+leb-not a b = go (ltb b a) refl
+  where
+    go : (t : Bool) → ltb b a ≡ t → leb a b ≡ not t
+    go true e = lt-leb a b (ltb-true b a e)
+    go false e = le-leb a b (ltb-false b a e)
+
+-- two comparisons of which one holds where the other does
+pub ltb-same : (a b c d : ℕ) → (a < b → c < d) → (b ≤ a → d ≤ c) → ltb a b ≡ ltb c d
+ltb-same a b c d t f = go (ltb a b) refl
+  where
+    go : (u : Bool) → ltb a b ≡ u → u ≡ ltb c d
+    go true e = sym (lt-ltb c d (t (ltb-true a b e)))
+    go false e = sym (le-ltb c d (f (ltb-false a b e)))
 
 -- ---- tests as statements
 

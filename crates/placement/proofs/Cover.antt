@@ -13,9 +13,9 @@ use Rattle.layout.specs.Answer.{accepted, refused, none, need}
 use Rattle.layout.specs.Search.{first, find}
 use Rattle.layout.specs.Entries.{Entry, holds}
 use Rattle.layout.specs.Rules.{holdsAt, rule14At}
-use Rattle.layout.proofs.Laws.{lt-or-le, need-accepts, some-T, some-same, first-same, first-skip, find-at, find-before}
+use Rattle.layout.proofs.Laws.{lt-or-le, ltb-same, need-accepts, some-T, some-same, first-same, first-skip, find-at, find-before}
 use Rattle.placement.specs.Sets.{Held}
-use Rattle.placement.proofs.Sets.{ltb-same, some-false}
+use Rattle.placement.proofs.Sets.{some-false}
 use Rattle.placement.specs.Cover.{covers, coversAt, isCovered, rule14By, Holding, Uncovered}
 
 module _ (offset size p : ℕ) where

@@ -4,31 +4,24 @@ use Prim.Native.Nat.{ℕ, zero, suc, _+_, _-_, _≤_, _<_}
 use mathlib.Core.Bool.{Bool, true, false, _&&_, not, and-true, and-false}
 use mathlib.Core.List.{List}
 use mathlib.Core.Logic.{_⊎_, inl, inr, ⊎-elim}
-use mathlib.Core.Path.{_≡_, refl, sym, ap, _∙_}
+use mathlib.Core.Path.{_≡_, refl, sym, _∙_}
 use native.Mathlib.Omega.{arith}
 use native.Mathlib.Nat.{sub-zero}
 use lib.Dec.{leb, ltb, eqb}
 use lib.ListN.{length, getD}
 use borrow.Author.Count.{below-more}
-use borrow.Author.Tests.{lt-ltb, le-ltb, le-leb, lt-leb, eq-eqb, ne-eqb, ltb-true, ltb-false, leb-true, not-true, not-false}
+use borrow.Author.Tests.{lt-ltb, le-ltb, le-leb, lt-leb, eq-eqb, ne-eqb, ltb-true, leb-true, not-true, not-false}
 use Rattle.layout.specs.Answer.{Answer, accepted, refused, need}
 use Rattle.layout.specs.Search.{first, some}
 use Rattle.layout.specs.Entries.{Entry, at, shares}
 use Rattle.layout.specs.Rules.{setInside, rule12At, sharesAt, rule13At}
-use Rattle.layout.proofs.Laws.{lt-or-le, some-same, some-step, first-same, first-step}
+use Rattle.layout.proofs.Laws.{lt-or-le, not-not, leb-not, ltb-same, some-same, some-step, first-same, first-step}
 use Rattle.placement.specs.Sets.{isInside, overlaps, overlapsAt, largest, Between, Clear, rule12By, rule13By, Held, Outside, Overlapping}
 
 -- ---- one set, and two, by their numbers
 
-same : (x y : Bool) → (x ≡ true → y ≡ true) → (x ≡ false → y ≡ false) → x ≡ y
-same true y t f = sym (t refl)
-same false y t f = sym (f refl)
-
-pub ltb-same : (a b c d : ℕ) → (a < b → c < d) → (b ≤ a → d ≤ c) → ltb a b ≡ ltb c d
-ltb-same a b c d t f = same (ltb a b) (ltb c d) (λ e. lt-ltb c d (t (ltb-true a b e))) (λ e. le-ltb c d (f (ltb-false a b e)))
-
 ltb-not : (a b c d : ℕ) → (a < b → d < c) → (b ≤ a → c ≤ d) → ltb a b ≡ not (leb c d)
-ltb-not a b c d t f = same (ltb a b) (not (leb c d)) (λ e. ap not (lt-leb c d (t (ltb-true a b e)))) (λ e. ap not (le-leb c d (f (ltb-false a b e))))
+ltb-not a b c d t f = ltb-same a b d c t f ∙ sym (rw (leb-not c d) (not-not (ltb d c)))
 
 module _ (offset size h n : ℕ) where
   pub inside-empty : size ≡ 0 → false ≡ not (isInside h n offset size)
