@@ -1,5 +1,4 @@
 pub mod Turns
-pub mod Arrays
 pub mod Texts
 pub mod Loops
 pub mod Held

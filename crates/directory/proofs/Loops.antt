@@ -1,14 +1,14 @@
--- Searches and counts that go one number further.
+-- Searches that go one number further.
 -- Assumes nothing.
-use Prim.Native.Nat.{ℕ, zero, suc, _+_, _≤_, _<_}
+use Prim.Native.Nat.{ℕ, zero, suc, _+_, _<_}
 use mathlib.Core.Bool.{Bool, true, false, cond, not}
-use mathlib.Core.Path.{_≡_, refl, sym, _∙_}
+use mathlib.Core.Path.{_≡_, refl, _∙_}
 use native.Mathlib.Omega.{arith}
-use native.Mathlib.Nat.{add-zero, zero-add, add-assoc}
+use native.Mathlib.Nat.{add-zero, zero-add}
 use native.Mathlib.Numerals.{add-one}
 use lib.Dec.{ltb}
 use borrow.Author.Tests.{lt-ltb, le-ltb}
-use Rattle.layout.specs.Search.{find, count}
+use Rattle.layout.specs.Search.{find}
 
 -- what is found stays found
 kept : (u : Bool) (i m x f y : ℕ) → i < m → x ≡ cond (ltb f m) f y → cond u i x ≡ cond (ltb (cond u i f) m) (cond u i f) y
@@ -34,20 +34,3 @@ module _ (t : ℕ → Bool) where
   -- the numbers in a row that pass, by what a turn of the loop makes of them
   pub row-next : (row i : ℕ) (passes : Bool) → row ≡ find t 0 i → passes ≡ not (t i) → {r : ℕ} → r ≡ cond (ltb row i) row (cond passes (i + 1) i) → r ≡ find t 0 (i + 1)
   row-next row i passes e q s = s ∙ rw (q, add-one i, find-more 0 i, zero-add i, ← e) (turned (t i) (ltb row i) row (suc i) i)
-
-  count-more : (i n : ℕ) → count t i (suc n) ≡ count t i n + cond (t (i + n)) 1 0
-  unfolding count
-  count-more i zero = rw (add-zero i) (omega arith)
-  count-more i (suc n) = let q : suc i + n ≡ i + suc n = omega arith in rw (count-more (suc i) n, q, add-assoc (cond (t i) 1 0) (count t (suc i) n) (cond (t (i + suc n)) 1 0))
-
-  pub none-counted : 0 ≡ count t 0 0
-  unfolding count
-  none-counted = refl
-
-  -- one number more counted
-  pub count-next : (counted i : ℕ) → counted ≡ count t 0 i → counted ≤ i → {r : ℕ} → r ≡ counted + cond (t i) 1 0 → (r ≡ count t 0 (i + 1)) × (r ≤ i + 1)
-  count-next counted i e l s = (s ∙ sym (rw (add-one i, count-more 0 i, zero-add i, ← e)), most (t i) s)
-    where
-      most : (u : Bool) {r : ℕ} → r ≡ counted + cond u 1 0 → r ≤ i + 1
-      most true e = omega arith
-      most false e = omega arith

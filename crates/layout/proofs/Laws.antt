@@ -6,7 +6,7 @@ use mathlib.Core.Logic.{_↔_, _⊎_, inl, inr, ⊎-elim}
 use mathlib.Core.List.{List, [], _∷_, _++_, map, map-append, append-nil, append-assoc}
 use mathlib.Core.Path.{_≡_, refl, sym, ap, _∙_, subst}
 use native.Mathlib.Omega.{arith}
-use native.Mathlib.Nat.{add-zero, zero-add, add-suc, suc-add, le-of-suc-le-suc, not-suc-le-zero}
+use native.Mathlib.Nat.{add-zero, zero-add, add-suc, suc-add, add-assoc, le-of-suc-le-suc, not-suc-le-zero}
 use native.Mathlib.Numerals.{add-one}
 use lib.Dec.{T, leb, ltb, eqb, leb→le, le→leb, eqb→eq, eqb-refl, T-not, not-T}
 use lib.IntN.{ℤ, pos, negsuc}
@@ -355,6 +355,35 @@ module _ (t : ℕ → Bool) where
       go false h below =
           let q : i + suc n - suc (find t (suc i) n) ≡ suc i + n - suc (find t (suc i) n) = omega arith in
           rw (q, below (omega arith)) (omega arith)
+
+-- ---- counts, one number further
+
+module _ (t : ℕ → Bool) where
+  count-more : (i n : ℕ) → count t i (suc n) ≡ count t i n + cond (t (i + n)) 1 0
+  unfolding count
+  count-more i zero = rw (add-zero i) (omega arith)
+  count-more i (suc n) = let q : suc i + n ≡ i + suc n = omega arith in rw (count-more (suc i) n, q, add-assoc (cond (t i) 1 0) (count t (suc i) n) (cond (t (i + suc n)) 1 0))
+
+  pub nothing-counted : 0 ≡ count t 0 0
+  unfolding count
+  nothing-counted = refl
+
+  -- one number more counted
+  pub count-next : (counted i : ℕ) → counted ≡ count t 0 i → counted ≤ i → {r : ℕ} → r ≡ counted + cond (t i) 1 0 → (r ≡ count t 0 (i + 1)) × (r ≤ i + 1)
+  count-next counted i e l s = (s ∙ sym (rw (add-one i, count-more 0 i, zero-add i, ← e)), most (t i) s)
+    where
+      most : (u : Bool) {r : ℕ} → r ≡ counted + cond u 1 0 → r ≤ i + 1
+      most true e = omega arith
+      most false e = omega arith
+
+  pub count-most : (i n : ℕ) → count t i n ≤ n
+  unfolding count
+  count-most i zero = omega arith
+  count-most i (suc n) = go (t i) (count-most (suc i) n)
+    where
+      go : (u : Bool) → count t (suc i) n ≤ n → cond u 1 0 + count t (suc i) n ≤ suc n
+      go true h = omega arith
+      go false h = omega arith
 
 -- ---- what a search finds, by its number
 

@@ -13,5 +13,6 @@ pub mod Sound
 pub mod Padded
 pub mod Whole
 pub mod Agree
+pub mod Ranks
 pub mod Maps
 pub mod Signs

@@ -22,7 +22,7 @@ use Rattle.layout.specs.Rules.{dataSets, verdict}
 use Rattle.layout.specs.Faults.{NonEmpty, Byte, Fixed, Variable, NumbersFit}
 use Rattle.layout.specs.Records.{variableLengths, lengths, recordAt, recordLength, recordPart, records}
 use Rattle.layout.specs.Order.{sorted, select, startAt, nonEmptySets, fileOrder, before, rank, recordsAt, recordsInOrder}
-use Rattle.layout.proofs.Laws.{lt-or-le, join-append}
+use Rattle.layout.proofs.Laws.{lt-or-le, count-most, join-append}
 use Rattle.layout.proofs.Chain.{Pairs, In, Apart, Inside, Chain, chain, joined, chain-joined, tally, sorted-all, sorted-some, sorted-pairs, sorted-sorted, sorted-count, starting-before, ranks}
 use Rattle.layout.proofs.Tests.{nonEmpty-T, nonEmpty-extent, variable-T}
 use Rattle.layout.proofs.Faults.{sum-replicate}
@@ -237,17 +237,21 @@ module _ (b : List ℕ) (m : Sound b) where
   pub only-sets-in-order : All (λ i. (i < length ds) × NonEmpty (at ds i)) (fileOrder ds)
   only-sets-in-order = all-in-order (λ i. (i < length ds) × NonEmpty (at ds i)) (λ i l h. (l, h))
 
-  -- and NUM_DATA_SETS is how many there are
-  pub sets-counted : whole (numDataSets b) ≡ pos (length (fileOrder ds))
+  -- there are as many as rule 11 counts, at most one for each entry, and NUM_DATA_SETS says how many
+  sets-all : length (fileOrder ds) ≡ dataSets ds
   unfolding dataSets fileOrder startAt nonEmptySets
-  sets-counted =
-      m .headed .counted
-      ∙ ap pos (sym (
+  sets-all =
       sym (tally-all (sorted from (nonEmptySets ds)))
       ∙ sorted-count from (λ _. true) (nonEmptySets ds)
       ∙ tally-select (nonEmptyAt ds) (λ _. true) (length ds) 0
       ∙ ap (λ (t : ℕ → Bool). count t 0 (length ds)) (fun-ext (λ i. and-true (nonEmptyAt ds i)))
-      ))
+
+  pub sets-few : length (fileOrder ds) ≤ length ds
+  unfolding dataSets
+  sets-few = rw sets-all (count-most (nonEmptyAt ds) 0 (length ds))
+
+  pub sets-counted : whole (numDataSets b) ≡ pos (length (fileOrder ds))
+  sets-counted = m .headed .counted ∙ ap pos (sym sets-all)
 
 -- ---- which record of a set
 

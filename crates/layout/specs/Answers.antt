@@ -8,6 +8,7 @@ use Rattle.layout.specs.Text.{whole}
 use Rattle.layout.specs.Answer.{Answer, accepted, refused, Reply, refusal, is}
 use Rattle.layout.specs.Search.{join}
 use Rattle.layout.specs.Entries.{Entry, directory, start, extent}
+use Rattle.layout.specs.Order.{ranksOf}
 use Rattle.layout.specs.Records.{Span}
 use Rattle.layout.specs.Fields.{Value, integer, single, double, time, Position}
 use Rattle.layout.specs.declared.Verdict.{Verdict}
@@ -79,6 +80,7 @@ directoryOf ds =
       sizes = padded 128 0 (map extent ds);
       counts = padded 128 0 (map countOf ds);
       «record_sizes» = padded 128 (pos 0) (map recordSizeOf ds);
+      ranks = padded 128 0 (ranksOf ds);
     }
 
 abbrev pub noDirectory : Directory
@@ -92,6 +94,7 @@ noDirectory =
       sizes = replicate 128 0;
       counts = replicate 128 0;
       «record_sizes» = replicate 128 (pos 0);
+      ranks = replicate 128 0;
     }
 
 -- the directory where the answer accepts, else none

@@ -11,6 +11,7 @@ use Rattle.layout.specs.Text.{whole}
 use Rattle.layout.specs.Answer.{Answer, accepted, refused}
 use Rattle.layout.specs.Search.{upto, join}
 use Rattle.layout.specs.Entries.{Entry, directory, at}
+use Rattle.layout.specs.Order.{rankOf}
 use Rattle.layout.specs.Rules.{verdict}
 
 -- ---- words
@@ -51,7 +52,7 @@ unfoldable pub entryLine : List Entry → ℕ → List ℕ
 entryLine ds i =
     let e = at ds i in
     let isSpare = lineOf (bytes "entry" ∷ decimal i ∷ bytes "spare" ∷ []) in
-    let isNamed = lineOf (bytes "entry" ∷ decimal i ∷ (e .type ∷ []) ∷ trimmed (e .name) ∷ signedDecimal (whole (e .offset)) ∷ signedDecimal (whole (e .size)) ∷ signedDecimal (whole (e .count)) ∷ signedDecimal (whole (e .recordSize)) ∷ []) in
+    let isNamed = lineOf (bytes "entry" ∷ decimal i ∷ (e .type ∷ []) ∷ trimmed (e .name) ∷ signedDecimal (whole (e .offset)) ∷ signedDecimal (whole (e .size)) ∷ signedDecimal (whole (e .count)) ∷ signedDecimal (whole (e .recordSize)) ∷ decimal (rankOf ds i) ∷ []) in
     cond (eqb (e .type) 32) isSpare isNamed
 
 unfoldable pub acceptedLines : List ℕ → List Entry → List ℕ

@@ -79,7 +79,8 @@ pub enum PointAnswer {
     At(Point),
 }
 
-// Up to 128 entries held together, unused places zero. A name is 28 bytes and a FILENAME 62, entry after entry.
+// Up to 128 entries held together, unused places zero. A name is 28 bytes and a FILENAME 62, entry after entry. The rank of an entry is how many non-empty
+// sets start before its own; an entry without a non-empty set has 128.
 pub struct Directory {
     pub entries: usize,
     pub types: [u8; 128],
@@ -89,6 +90,7 @@ pub struct Directory {
     pub sizes: [u64; 128],
     pub counts: [u64; 128],
     pub record_sizes: [i64; 128],
+    pub ranks: [u64; 128],
 }
 
 impl Directory {
@@ -107,6 +109,7 @@ impl Directory {
             sizes: [0; 128],
             counts: [0; 128],
             record_sizes: [0; 128],
+            ranks: [0; 128],
         }
     }
 }

@@ -14,6 +14,8 @@ use Rattle.layout.specs.Entries.{entriesFrom, nonEmptyAt}
 use Rattle.layout.specs.Rules.{dataSets}
 use Rattle.layout.specs.Text.{whole}
 use Rattle.layout.specs.Answers.{padded, typeOf, countOf, recordSizeOf}
+use Rattle.layout.proofs.Laws.{nothing-counted, count-next}
+use Rattle.layout.proofs.Padded.{none-held, one-held}
 use Rattle.layout.proofs.Sound.{length-entries}
 use Rattle.text.specs.Numbers.{wholeIn}
 use Rattle.dsd.specs.Held.{heldOf, viewOf, roleOf}
@@ -21,8 +23,7 @@ use Rattle.dsd.specs.declared.Entry.{Entry as HeldEntry}
 use Rattle.directory.specs.Numbers.{heldStart, heldExtent, heldRole}
 use Rattle.directory.specs.Checks.{overAt, unfitAt}
 use Rattle.directory.specs.declared.Sets.{Sets}
-use Rattle.directory.proofs.Arrays.{none-held, one-held}
-use Rattle.directory.proofs.Loops.{none-found, row-next, none-counted, count-next}
+use Rattle.directory.proofs.Loops.{none-found, row-next}
 use Rattle.directory.proofs.Held.{held-is, over-is, fits-is, counted-is, of-entry, all-held, all-read}
 use Rattle.directory.proofs.read_sets.Statement.{statement}
 use Rattle.directory.proofs.read_sets.Tie as tie
@@ -55,7 +56,7 @@ loop-holds c =
       none-found (overAt (entriesFrom b from n)),
       none-found (unfitAt (entriesFrom b from n)),
       omega arith,
-      none-counted (nonEmptyAt (entriesFrom b from n)),
+      nothing-counted (nonEmptyAt (entriesFrom b from n)),
       ap (λ (s : Sets). s .types) zeros ∙ none-held (of-entry typeOf 0 b from n) 0,
       ap (λ (s : Sets). s .offsets) zeros ∙ none-held (of-entry heldStart 0 b from n) 0,
       ap (λ (s : Sets). s .sizes) zeros ∙ none-held (of-entry heldExtent 0 b from n) 0,
