@@ -376,6 +376,12 @@ module _ (t : ℕ → Bool) where
       most true e = omega arith
       most false e = omega arith
 
+  pub count-hit : (counted i : ℕ) → counted ≡ count t 0 i → counted ≤ i → t i ≡ true → (counted + 1 ≡ count t 0 (i + 1)) × (counted + 1 ≤ i + 1)
+  count-hit counted i e l h = count-next counted i e l (rw h refl)
+
+  pub count-miss : (counted i : ℕ) → counted ≡ count t 0 i → counted ≤ i → t i ≡ false → (counted ≡ count t 0 (i + 1)) × (counted ≤ i + 1)
+  count-miss counted i e l h = count-next counted i e l (rw h (omega arith))
+
   pub count-most : (i n : ℕ) → count t i n ≤ n
   unfolding count
   count-most i zero = omega arith
