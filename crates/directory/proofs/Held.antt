@@ -11,13 +11,13 @@ use lib.ListN.{length}
 use borrow.Author.Tests.{eqb-true}
 use Rattle.layout.specs.Search.{find, upto}
 use Rattle.layout.specs.Entries.{Entry, entryFrom, entriesFrom, at, nonEmpty, nonEmptyAt, start, extent, numbersFit}
-use Rattle.layout.specs.Answers.{padded, typeOf, countOf, recordSizeOf, directoryOf}
+use Rattle.layout.specs.Answers.{padded, typeOf, countOf, recordSizeOf}
 use Rattle.layout.proofs.Laws.{find-before, not-not}
 use Rattle.layout.proofs.Sound.{length-entries, at-entries}
 use Rattle.dsd.specs.declared.Entry.{Entry as HeldEntry}
 use Rattle.dsd.specs.Held.{heldOf, viewOf, overPlace, roleOf, Read}
 use Rattle.dsd.proofs.Views.{turn-held, over-held, held-nonEmpty}
-use Rattle.directory.specs.Numbers.{setsOf, heldStart, heldExtent, heldRole, heldSets, directoryWith}
+use Rattle.directory.specs.Numbers.{setsOf, heldStart, heldExtent, heldRole, heldSets}
 use Rattle.directory.specs.Checks.{overAt, unfitAt}
 use Rattle.directory.specs.declared.Sets.{Sets}
 
@@ -97,8 +97,3 @@ module _ (ds : List Entry) (none : find (overAt ds) 0 (length ds) ≡ length ds)
         map-at heldExtent extent ds (λ i l. turn-held (at ds i) (not-over i l) .sizes),
         map-at heldRole roleOf ds (λ i l. turn-held (at ds i) (not-over i l) .roles),
       )
-
--- a directory by its own numbers
-pub with-numbers : (sets : Sets) (ds : List Entry) → sets ≡ setsOf ds → directoryWith sets ds ≡ directoryOf ds
-unfolding directoryWith directoryOf setsOf
-with-numbers sets ds e = rw e

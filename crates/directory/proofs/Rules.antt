@@ -17,15 +17,15 @@ use Rattle.layout.specs.Bytes.{bytes, part, member}
 use Rattle.layout.specs.Text.{layout, lineClasses, valueClasses, valueWidth, quoteWidth, placeOf, widthOf, valueOf, whole}
 use Rattle.layout.specs.Lines.{mph}
 use Rattle.layout.specs.Answer.{accepted, refused, need, _orElse_}
-use Rattle.layout.specs.Answers.{verdictIs}
+use Rattle.layout.specs.Answers.{verdictIs, directoryOf}
 use Rattle.layout.specs.declared.Verdict.{Verdict}
 use Rattle.layout.specs.Search.{first, laidOut}
 use Rattle.layout.specs.Sph.{sphLines}
 use Rattle.layout.specs.Entries.{Entry, eqZ, largestSigned, headerNumber, numDataSets, headersEnd, entries, dsdsAt, dsdAt, dsdBytes, entryOf, entriesFrom, entryAt, directory, at, start, extent, nonEmpty, isData, isReference, allZero, inRange, setFits, numbersFit}
-use Rattle.layout.specs.Rules.{linesOf, rule7, rule8At, rule8, rule9At, rule9, rule10At, rule10, rule11, rule12, rule13, rule14, rules7to14}
+use Rattle.layout.specs.Rules.{linesOf, rule7, rule8At, rule8, rule9At, rule9, rule10At, rule10, rule11, rule12, rule13, rule14, rules7to14, headerRules}
 use Rattle.layout.proofs.Laws.{need-accepts, orElse-accepts, orElse-assoc, first-accepts-0, first-found, find-bounds, find-at, not-not}
 use Rattle.layout.proofs.Padded.{padded-at}
-use Rattle.layout.proofs.Sound.{length-directory, at-directory, entry-at, directory-from}
+use Rattle.layout.proofs.Sound.{length-directory, at-directory, entry-at, directory-from, keeps}
 use Rattle.layout.proofs.Tests.{is-true}
 use Rattle.layout.proofs.Types.{laidOut-typed}
 use Rattle.text.specs.Numbers.{numberIn}
@@ -33,7 +33,9 @@ use Rattle.text.specs.declared.Number.{Number as HeldNumber}
 use Rattle.placement.specs.Sets.{Held}
 use Rattle.dsd.specs.Held.{numberFrom, heldOf, viewOf, overPlace}
 use Rattle.dsd.proofs.Views.{turn-held, capped-test}
-use Rattle.directory.specs.Numbers.{setsOf, heldStart, heldSets}
+use Rattle.ranks.specs.Ranks.{ranksBy}
+use Rattle.ranks.proofs.Ranks.{ranks-same}
+use Rattle.directory.specs.Numbers.{setsOf, heldStart, heldSets, directoryWith}
 use Rattle.directory.specs.Checks.{Headers, Dsds, SparesByFirst, overAt, unfitAt, Counted, textRules, numberRules, placeRules, Placed}
 use Rattle.directory.proofs.Turns.{place, nine}
 use Rattle.directory.proofs.Held.{not-over, held-same}
@@ -265,3 +267,29 @@ module _ (b : List ℕ) (end k : ℕ) (headers : Headers b end k) where
         let extents = s ∙ ap (λ (x : Sets). x .sizes) numbers-read in
         p .answer (directory b) (held b n eight ten offsets sizes starts extents) (length-all b dsds k (dsds-of headers))
         ∙ ap (λ (h : ℕ). placeRules (directory b) h n) (headers .ends)
+
+-- ---- a directory by its own numbers, where rules 1 to 14 hold
+
+module _ (b : List ℕ) (n : ℕ) (accepts : headerRules b n ≡ accepted) (sets : Sets) (are : sets ≡ setsOf (directory b)) where
+  pub ranks-are : ranksBy (sets .offsets) (sets .sizes) (sets .entries) ≡ directoryOf (directory b) .ranks
+  unfolding setsOf
+  ranks-are =
+      let rules = keeps b n accepts in
+      let by-numbers = held b n (rules .eight) (rules .ten) (sets .offsets) (sets .sizes) (ap (λ (s : Sets). s .offsets) are) (ap (λ (s : Sets). s .sizes) are) in
+      ap (λ (s : Sets). ranksBy (sets .offsets) (sets .sizes) (s .entries)) are ∙ ranks-same (directory b) (sets .offsets) (sets .sizes) by-numbers
+
+  pub with-numbers : directoryWith sets (directory b) ≡ directoryOf (directory b)
+  unfolding directoryWith directoryOf setsOf
+  with-numbers =
+      let ranks = ranks-are in
+      λ j. record {
+        entries = are j .entries;
+        types = are j .types;
+        names = directoryOf (directory b) .names;
+        filenames = directoryOf (directory b) .filenames;
+        offsets = are j .offsets;
+        sizes = are j .sizes;
+        counts = are j .counts;
+        «record_sizes» = are j .«record_sizes»;
+        ranks = ranks j;
+      }

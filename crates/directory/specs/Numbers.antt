@@ -9,6 +9,7 @@ use Rattle.layout.specs.Entries.{Entry, start, extent}
 use Rattle.layout.specs.Answers.{padded, typeOf, nameOf, filenameOf, countOf, recordSizeOf}
 use Rattle.layout.specs.declared.Directory.{Directory}
 use Rattle.dsd.specs.Held.{roleOf, heldOf, viewOf}
+use Rattle.ranks.specs.Ranks.{ranksBy}
 use Rattle.directory.specs.declared.Sets.{Sets}
 
 abbrev pub together : ℕ → List ℕ → List ℕ → List ℕ → List ℕ → List ℤ → List ℕ → Sets
@@ -61,4 +62,5 @@ directoryWith sets ds =
       sizes = sets .sizes;
       counts = sets .counts;
       «record_sizes» = sets .«record_sizes»;
+      ranks = ranksBy (sets .offsets) (sets .sizes) (sets .entries);
     }

@@ -277,8 +277,10 @@ pub fn directory_from(p: &[u8], from: usize, sets: Sets) -> Directory
     let record_sizes = sets.record_sizes;
     let mut names = [0u8; 3584];
     let mut filenames = [0u8; 7936];
+    let mut ranks = [0u64; 128];
     put_names(&mut names, 0, p, from, entries);
     put_filenames(&mut filenames, 0, p, from, entries);
+    ranks::rank_sets(&offsets, &sizes, entries, &mut ranks);
     Directory {
         entries,
         types,
@@ -288,5 +290,6 @@ pub fn directory_from(p: &[u8], from: usize, sets: Sets) -> Directory
         sizes,
         counts,
         record_sizes,
+        ranks,
     }
 }

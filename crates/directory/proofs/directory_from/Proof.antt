@@ -23,14 +23,18 @@ slice-aggregate-put-filenames c = search needs
 put-filenames-requires : tie.Need-put-filenames-requires
 put-filenames-requires c κs = search needs
 
+rank-sets-requires : tie.Need-rank-sets-requires
+rank-sets-requires c κs = search needs
+
 returns : tie.Need-returns
 unfolding directoryWith directoryOf
 returns c =
-    let start = c .before .before .before .before .before .before .before .before .before .before .before .before in
+    let start = c .before .before .before .before .before .before .before .before .before .before .before .before .before .before .before .before in
     let args = start .args in
     let few = start .pre .1 in
-    let names = fills (c .before .before .before .before .put-names .ensures) (names-long (args .p .now) (args .from) (args .sets .entries) few ∙ sym (length-replicate {A = ℕ} 3584 0)) in
-    let filenames = fills (c .before .put-filenames .ensures) (filenames-long (args .p .now) (args .from) (args .sets .entries) few ∙ sym (length-replicate {A = ℕ} 7936 0)) in
+    let names = fills (c .before .before .before .before .before .before .before .before .put-names .ensures) (names-long (args .p .now) (args .from) (args .sets .entries) few ∙ sym (length-replicate {A = ℕ} 3584 0)) in
+    let filenames = fills (c .before .before .before .before .before .put-filenames .ensures) (filenames-long (args .p .now) (args .from) (args .sets .entries) few ∙ sym (length-replicate {A = ℕ} 7936 0)) in
+    let ranks = c .rank-sets .ensures in
     λ j. record {
       entries = args .sets .entries;
       types = args .sets .types;
@@ -40,6 +44,7 @@ returns c =
       sizes = args .sets .sizes;
       counts = args .sets .counts;
       «record_sizes» = args .sets .«record_sizes»;
+      ranks = ranks j;
     }
 
 pub directory-from-spec : {M : Type 1} → statement M
@@ -50,4 +55,5 @@ directory-from-spec =
     put-names-requires
     slice-aggregate-put-filenames
     put-filenames-requires
+    rank-sets-requires
     returns)
