@@ -38,9 +38,9 @@ unfolding pointDoubles
 doubles-three (refusal n p e) = refl
 doubles-three (is x) = refl
 
-pub directory-words : (v : Answer) (d : Directory) → length (d .types) ≡ 128 → length (d .offsets) ≡ 128 → length (d .sizes) ≡ 128 → length (d .counts) ≡ 128 → length (d .«record_sizes») ≡ 128 → length (directoryWords v d) ≡ 644
+pub directory-words : (v : Answer) (d : Directory) → length (d .types) ≡ 128 → length (d .offsets) ≡ 128 → length (d .sizes) ≡ 128 → length (d .counts) ≡ 128 → length (d .«record_sizes») ≡ 128 → length (d .ranks) ≡ 128 → length (directoryWords v d) ≡ 772
 unfolding directoryWords
-directory-words v d types offsets sizes counts records = simp (length-append, length-map, verdict-three, types, offsets, sizes, counts, records)
+directory-words v d types offsets sizes counts records ranks = simp (length-append, length-map, verdict-three, types, offsets, sizes, counts, records, ranks)
 
 pub directory-texts : (d : Directory) → length (d .names) ≡ 3584 → length (d .filenames) ≡ 7936 → length (directoryTexts d) ≡ 11520
 unfolding directoryTexts

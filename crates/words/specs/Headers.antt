@@ -43,11 +43,11 @@ headerTexts h = identityTexts (h .identity) ++ ((h .sensing .«sensing_start» +
 
 -- ---- the directory: how many entries, then each number of all 128 places; its names, then its FILENAMEs
 
-abbrev pub numberWords : Answer → ℕ → (types offsets sizes counts : List ℕ) → List ℤ → List ℕ
-numberWords v n types offsets sizes counts record-sizes = verdictWords v ++ ((n ∷ []) ++ (types ++ ((offsets ++ (sizes ++ counts)) ++ map word record-sizes)))
+abbrev pub numberWords : Answer → ℕ → (types offsets sizes counts : List ℕ) → List ℤ → (ranks : List ℕ) → List ℕ
+numberWords v n types offsets sizes counts record-sizes ranks = verdictWords v ++ ((n ∷ []) ++ (types ++ ((offsets ++ (sizes ++ counts)) ++ (map word record-sizes ++ ranks))))
 
 unfoldable pub directoryWords : Answer → Directory → List ℕ
-directoryWords v d = numberWords v (d .entries) (d .types) (d .offsets) (d .sizes) (d .counts) (d .«record_sizes»)
+directoryWords v d = numberWords v (d .entries) (d .types) (d .offsets) (d .sizes) (d .counts) (d .«record_sizes») (d .ranks)
 
 unfoldable pub directoryTexts : Directory → List ℕ
 directoryTexts d = d .names ++ d .filenames

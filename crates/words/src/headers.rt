@@ -161,21 +161,23 @@ pub fn put_directory_numbers<'a>(
     sizes: &'a [u64; 128],
     counts: &'a [u64; 128],
     record_sizes: &'a [i64; 128],
+    ranks: &'a [u64; 128],
 ) -> usize
-    requires { ⌜ 644 ≤ length (now room) ⌝ }
-    ensures { λ r. ⌜ Put 644 (numberWords (verdictIs verdict) entries (now (types .entry)) (now (offsets .entry)) (now (sizes .entry)) (now (counts .entry)) (now («record_sizes» .entry))) (now (room .entry)) (now (room .exit)) 0 r ⌝ }
+    requires { ⌜ 772 ≤ length (now room) ⌝ }
+    ensures { λ r. ⌜ Put 772 (numberWords (verdictIs verdict) entries (now (types .entry)) (now (offsets .entry)) (now (sizes .entry)) (now (counts .entry)) (now («record_sizes» .entry)) (now (ranks .entry))) (now (room .entry)) (now (room .exit)) 0 r ⌝ }
 {
     let number = [entries as u64];
     let judged = put_verdict(room, verdict);
     let counted = put_words(room, judged, &number);
     let typed = put_bytes(room, counted, types);
     let filled = put_arrays(room, typed, offsets, sizes, counts);
-    put_numbers(room, filled, record_sizes)
+    let measured = put_numbers(room, filled, record_sizes);
+    put_words(room, measured, ranks)
 }
 
 pub(crate) fn put_directory(room: &mut [u64], verdict: Verdict, directory: Directory) -> usize
-    requires { ⌜ 644 ≤ length (now room) ⌝ }
-    ensures { λ r. ⌜ Put 644 (directoryWords (verdictIs verdict) directory) (now (room .entry)) (now (room .exit)) 0 r ⌝ }
+    requires { ⌜ 772 ≤ length (now room) ⌝ }
+    ensures { λ r. ⌜ Put 772 (directoryWords (verdictIs verdict) directory) (now (room .entry)) (now (room .exit)) 0 r ⌝ }
 {
     let entries = directory.entries;
     put_directory_numbers(
@@ -187,6 +189,7 @@ pub(crate) fn put_directory(room: &mut [u64], verdict: Verdict, directory: Direc
         &directory.sizes,
         &directory.counts,
         &directory.record_sizes,
+        &directory.ranks,
     )
 }
 

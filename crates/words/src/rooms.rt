@@ -24,7 +24,7 @@ pub fn put_whole_directory(
 ) -> u32
     ensures { λ r. ⌜ DirectoryRooms (verdictIs verdict) directory (now (words .entry)) (now (words .exit)) (now (texts .entry)) (now (texts .exit)) r ⌝ }
 {
-    if words.len() < 644 {
+    if words.len() < 772 {
         return ROOM_TOO_SHORT;
     }
     if texts.len() < 11520 {

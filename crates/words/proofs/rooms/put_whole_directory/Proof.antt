@@ -12,8 +12,8 @@ use Rattle.words.proofs.rooms.put_whole_directory.Statement.{statement}
 use Rattle.words.proofs.rooms.put_whole_directory.Tie as tie
 
 -- how long the answer is, by the lengths of the directory's arrays
-words-long : (s : tie.Start) → length (directoryWords (verdictIs (s .args .verdict)) (s .args .directory)) ≡ 644
-words-long s = let g = s .good .1 .0 .1 .1 in directory-words (verdictIs (s .args .verdict)) (s .args .directory) (simp length-map at (g .1 .0 .1 .0 .1)) (simp length-map at (g .1 .1 .1 .1 .0 .1 .0 .1)) (simp length-map at (g .1 .1 .1 .1 .1 .0 .1 .0 .1)) (simp length-map at (g .1 .1 .1 .1 .1 .1 .0 .1 .0 .1)) (simp length-map at (g .1 .1 .1 .1 .1 .1 .1 .0 .1 .0 .1))
+words-long : (s : tie.Start) → length (directoryWords (verdictIs (s .args .verdict)) (s .args .directory)) ≡ 772
+words-long s = let g = s .good .1 .0 .1 .1 in directory-words (verdictIs (s .args .verdict)) (s .args .directory) (simp length-map at (g .1 .0 .1 .0 .1)) (simp length-map at (g .1 .1 .1 .1 .0 .1 .0 .1)) (simp length-map at (g .1 .1 .1 .1 .1 .0 .1 .0 .1)) (simp length-map at (g .1 .1 .1 .1 .1 .1 .0 .1 .0 .1)) (simp length-map at (g .1 .1 .1 .1 .1 .1 .1 .0 .1 .0 .1)) (simp length-map at (g .1 .1 .1 .1 .1 .1 .1 .1 .0 .1 .0 .1))
 
 texts-long : (s : tie.Start) → length (directoryTexts (s .args .directory)) ≡ 11520
 texts-long s = let g = s .good .1 .0 .1 .1 in directory-texts (s .args .directory) (simp length-map at (g .1 .1 .0 .1 .0 .1)) (simp length-map at (g .1 .1 .1 .0 .1 .0 .1))
