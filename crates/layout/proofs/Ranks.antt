@@ -111,7 +111,7 @@ module _ (b : List ℕ) (m : Sound b) where
   abbrev set : ℕ → ℕ
   set r = getD (fileOrder ds) r 0
 
-  is-set : (r : ℕ) → r < length (fileOrder ds) → (set r < length ds) × NonEmpty (at ds (set r))
+  pub is-set : (r : ℕ) → r < length (fileOrder ds) → (set r < length ds) × NonEmpty (at ds (set r))
   is-set r l = all-at (λ i. (i < length ds) × NonEmpty (at ds i)) 0 (fileOrder ds) (only-sets-in-order b m) r l
 
   -- the set that stands r-th in file order carries r

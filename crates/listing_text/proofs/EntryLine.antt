@@ -9,16 +9,20 @@ use borrow.Author.Tests.{eq-eqb, ne-eqb}
 use Rattle.layout.specs.Bytes.{bytes}
 use Rattle.layout.specs.Listing.{decimal, signedDecimal, trimmed, lineOf}
 use Rattle.listing_text.specs.declared.Listed.{Listed}
-use Rattle.listing_text.specs.EntryLine.{nameAt, entryWords, entryText}
+use Rattle.listing_text.specs.EntryLine.{nameAt, entryNumbers, entryWords, entryText}
 
 -- what is put for a word and the byte behind it
 abbrev pub word : List ℕ → List ℕ
 word w = w ++ 32 ∷ []
 
 module _ (names : List ℕ) (e : Listed) where
-  pub values-line : (z : ℤ) → z ≡ e .«record_size» → (e .«ds_type» ∷ []) ++ ((32 ∷ []) ++ (word (trimmed (nameAt names (e .number))) ++ (word (decimal (e .offset)) ++ (word (decimal (e .size)) ++ (word (decimal (e .count)) ++ (signedDecimal z ++ 10 ∷ [])))))) ≡ lineOf (entryWords names e)
-  unfolding lineOf entryWords
-  values-line z h = rw h (simp append-snoc)
+  pub numbers-line : (z : ℤ) → z ≡ e .«record_size» → word (decimal (e .offset)) ++ (word (decimal (e .size)) ++ (word (decimal (e .count)) ++ (word (signedDecimal z) ++ (decimal (e .rank) ++ 10 ∷ [])))) ≡ lineOf (entryNumbers e)
+  unfolding lineOf entryNumbers
+  numbers-line z h = rw h (simp append-snoc)
+
+  pub values-line : (e .«ds_type» ∷ []) ++ ((32 ∷ []) ++ (word (trimmed (nameAt names (e .number))) ++ lineOf (entryNumbers e))) ≡ lineOf (entryWords names e)
+  unfolding lineOf entryWords entryNumbers
+  values-line = simp append-snoc
 
   pub spare-line : e .«ds_type» ≡ 32 → (bytes "entry" ++ 32 ∷ []) ++ (word (decimal (e .number)) ++ (bytes "spare" ++ 10 ∷ [])) ≡ entryText names e
   unfolding entryText lineOf

@@ -31,7 +31,7 @@ module _ (d : Directory) where
 
   -- the line of what is read of entry i
   pub read-line : (i : ℕ) (z : ℤ) → z ≡ getD (d .«record_sizes») i (pos 0)
-      → entryText (d .names) (record { number = i; «ds_type» = getD (d .types) i 0; offset = getD (d .offsets) i 0; size = getD (d .sizes) i 0; count = getD (d .counts) i 0; «record_size» = z }) ≡ entryTextAt d i
+      → entryText (d .names) (record { number = i; «ds_type» = getD (d .types) i 0; offset = getD (d .offsets) i 0; size = getD (d .sizes) i 0; count = getD (d .counts) i 0; «record_size» = z; rank = getD (d .ranks) i 0 }) ≡ entryTextAt d i
   unfolding entryTextAt listedOf
   read-line i z h = rw h
 

@@ -19,6 +19,7 @@ use Rattle.layout.specs.Answer.{Answer, accepted, refused}
 use Rattle.layout.specs.Search.{join}
 use Rattle.layout.specs.Entries.{Entry, headersEnd, entries, dsdsAt, dsdAt, dsdBytes, entryOf, directory, at, isData, start, extent}
 use Rattle.layout.specs.Rules.{verdict}
+use Rattle.layout.specs.Order.{rankOf}
 use Rattle.layout.specs.Listing.{decimal, signedDecimal, trimmed, lineOf, entryLine, acceptedLines, listingFor, listing}
 use Rattle.layout.specs.Answers.{padded, typeOf, nameOf, countOf, recordSizeOf, directoryOf, directoryFor, noDirectory}
 use Rattle.layout.proofs.Padded.{getD-map, padded-at}
@@ -27,8 +28,9 @@ use Rattle.layout.specs.Faults.{NumbersFit}
 use Rattle.layout.proofs.Tests.{data-T}
 use Rattle.layout.proofs.Sound.{Sound, sound, length-directory, at-directory, entry-at, last-of-four}
 use Rattle.layout.proofs.Agree.{map-upto-same}
+use Rattle.layout.proofs.Ranks.{answered}
 use Rattle.listing_text.specs.declared.Listed.{Listed}
-use Rattle.listing_text.specs.EntryLine.{nameAt, entryWords, entryText}
+use Rattle.listing_text.specs.EntryLine.{nameAt, entryNumbers, entryWords, entryText}
 use Rattle.listing_text.specs.Listing.{listedOf, entryTextAt, entryTexts, acceptedText, refusalText, listingOf, longerText}
 use Rattle.listing_text.proofs.Held.{text-at}
 
@@ -90,7 +92,7 @@ module _ (ds : List Entry) (i : ℕ) (l : i < length ds) (wide : (k : ℕ) → k
       ∙ getD-map nameOf ds i [] none l
 
   abbrev listed : Entry → Listed
-  listed e = record { number = i; «ds_type» = e .type; offset = start e; size = extent e; count = countOf e; «record_size» = recordSizeOf e }
+  listed e = record { number = i; «ds_type» = e .type; offset = start e; size = extent e; count = countOf e; «record_size» = recordSizeOf e; rank = rankOf ds i }
 
   listed-same : listedOf (directoryOf ds) i ≡ listed (at ds i)
   unfolding listedOf directoryOf
@@ -102,6 +104,7 @@ module _ (ds : List Entry) (i : ℕ) (l : i < length ds) (wide : (k : ℕ) → k
         size = padded-at extent 0 128 ds i l j;
         count = padded-at countOf 0 128 ds i l j;
         «record_size» = padded-at recordSizeOf (pos 0) 128 ds i l j;
+        rank = answered ds i l j;
       }
 
   -- a line's words behind the entry's number
@@ -109,13 +112,13 @@ module _ (ds : List Entry) (i : ℕ) (l : i < length ds) (wide : (k : ℕ) → k
   line words = lineOf (bytes "entry" ∷ decimal i ∷ words)
 
   line-same : Typed (at ds i) → NumbersFit (at ds i) → entryTextAt (directoryOf ds) i ≡ entryLine ds i
-  unfolding entryTextAt entryText entryWords entryLine
+  unfolding entryTextAt entryText entryWords entryNumbers entryLine
   line-same typed fit = ap (entryText (directoryOf ds .names)) listed-same ∙ go (eqb (at ds i .type) 32) refl
     where
       go : (t : Bool) → eqb (at ds i .type) 32 ≡ t
           → cond t (line (bytes "spare" ∷ [])) (line (entryWords (directoryOf ds .names) (listed (at ds i))))
           ≡ cond t (line (bytes "spare" ∷ []))
-          (line ((at ds i .type ∷ []) ∷ trimmed (at ds i .name) ∷ signedDecimal (whole (at ds i .offset)) ∷ signedDecimal (whole (at ds i .size)) ∷ signedDecimal (whole (at ds i .count)) ∷ signedDecimal (whole (at ds i .recordSize)) ∷ []))
+          (line ((at ds i .type ∷ []) ∷ trimmed (at ds i .name) ∷ signedDecimal (whole (at ds i .offset)) ∷ signedDecimal (whole (at ds i .size)) ∷ signedDecimal (whole (at ds i .count)) ∷ signedDecimal (whole (at ds i .recordSize)) ∷ decimal (rankOf ds i) ∷ []))
       go true x = refl
       go false x =
           let u = unsigned (at ds i) typed fit (eqb-false (at ds i .type) 32 x) in

@@ -12,9 +12,13 @@ use Rattle.listing_text.specs.declared.Listed.{Listed}
 unfoldable pub nameAt : List ℕ → ℕ → List ℕ
 nameAt names i = part names (28 * i) 28
 
--- type, name without trailing blanks, offset, size, records, record size
+-- offset, size, records, record size, rank
+unfoldable pub entryNumbers : Listed → List (List ℕ)
+entryNumbers e = decimal (e .offset) ∷ decimal (e .size) ∷ decimal (e .count) ∷ signedDecimal (e .«record_size») ∷ decimal (e .rank) ∷ []
+
+-- type, name without trailing blanks, numbers
 unfoldable pub entryWords : List ℕ → Listed → List (List ℕ)
-entryWords names e = (e .«ds_type» ∷ []) ∷ trimmed (nameAt names (e .number)) ∷ decimal (e .offset) ∷ decimal (e .size) ∷ decimal (e .count) ∷ signedDecimal (e .«record_size») ∷ []
+entryWords names e = (e .«ds_type» ∷ []) ∷ trimmed (nameAt names (e .number)) ∷ entryNumbers e
 
 unfoldable pub entryText : List ℕ → Listed → List ℕ
 entryText names e =

@@ -22,6 +22,7 @@ listedOf d i =
       size = getD (d .sizes) i 0;
       count = getD (d .counts) i 0;
       «record_size» = getD (d .«record_sizes») i (pos 0);
+      rank = getD (d .ranks) i 0;
     }
 
 unfoldable pub entryTextAt : Directory → ℕ → List ℕ

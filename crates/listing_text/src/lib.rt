@@ -14,7 +14,7 @@ ghost use lib.ListN.{length};
 ghost use Rattle.layout.specs.Listing.{listing, trimmed, lineOf};
 ghost use Rattle.layout.specs.Answers.{verdictIs};
 ghost use Rattle.writing.specs.Put.{Put, Written};
-ghost use Rattle.listing_text.specs.EntryLine.{nameAt, entryWords, entryText};
+ghost use Rattle.listing_text.specs.EntryLine.{nameAt, entryNumbers, entryWords, entryText};
 ghost use Rattle.listing_text.specs.Listing.{entryTexts, refusalText, acceptedText, listingOf, longerText};
 
 // What a line says of one entry, but for its name.
@@ -25,6 +25,7 @@ struct Listed {
     size: u64,
     count: u64,
     record_size: i64,
+    rank: u64,
 }
 
 // The name of an entry without its trailing blanks, and a blank.
@@ -39,24 +40,33 @@ fn put_name(out: &mut [u8], at: usize, names: &[u8], entry: usize) -> usize
     put_byte(out, next, b' ')
 }
 
-// The rest of an entry's line: type, name, offset, size, records, record size.
+// The numbers of an entry's line: offset, size, records, record size, rank.
+fn put_numbers(out: &mut [u8], at: usize, entry: Listed) -> usize
+    requires { ⌜ at + 106 ≤ length (now out) ⌝ }
+    ensures { λ r. ⌜ Put 106 (lineOf (entryNumbers entry)) (now (out .entry)) (now (out .exit)) at r ⌝ }
+{
+    let placed = put_number(out, at, entry.offset, b' ');
+    let sized = put_number(out, placed, entry.size, b' ');
+    let counted = put_number(out, sized, entry.count, b' ');
+    let measured = put_signed(out, counted, entry.record_size, b' ');
+    put_number(out, measured, entry.rank, b'\n')
+}
+
+// The rest of an entry's line: type, name, numbers.
 fn put_values(out: &mut [u8], at: usize, names: &[u8], entry: Listed) -> usize
-    requires { ⌜ (at + 116 ≤ length (now out)) × ((entry .number < 128) × (length (now names) ≡ 3584)) ⌝ }
-    ensures { λ r. ⌜ Put 116 (lineOf (entryWords (now (names .entry)) entry)) (now (out .entry)) (now (out .exit)) at r ⌝ }
+    requires { ⌜ (at + 137 ≤ length (now out)) × ((entry .number < 128) × (length (now names) ≡ 3584)) ⌝ }
+    ensures { λ r. ⌜ Put 137 (lineOf (entryWords (now (names .entry)) entry)) (now (out .entry)) (now (out .exit)) at r ⌝ }
 {
     let typed = put_byte(out, at, entry.ds_type);
     let parted = put_byte(out, typed, b' ');
     let named = put_name(out, parted, names, entry.number);
-    let placed = put_number(out, named, entry.offset, b' ');
-    let sized = put_number(out, placed, entry.size, b' ');
-    let counted = put_number(out, sized, entry.count, b' ');
-    put_signed(out, counted, entry.record_size, b'\n')
+    put_numbers(out, named, entry)
 }
 
 // An entry's line. That of a spare has its number alone.
 fn put_entry(out: &mut [u8], at: usize, names: &[u8], entry: Listed) -> usize
-    requires { ⌜ (at + 143 ≤ length (now out)) × ((entry .number < 128) × (length (now names) ≡ 3584)) ⌝ }
-    ensures { λ r. ⌜ Put 143 (entryText (now (names .entry)) entry) (now (out .entry)) (now (out .exit)) at r ⌝ }
+    requires { ⌜ (at + 164 ≤ length (now out)) × ((entry .number < 128) × (length (now names) ≡ 3584)) ⌝ }
+    ensures { λ r. ⌜ Put 164 (entryText (now (names .entry)) entry) (now (out .entry)) (now (out .exit)) at r ⌝ }
 {
     let begun = put_text(out, at, b"entry ");
     let numbered = put_number(out, begun, entry.number as u64, b' ');
@@ -68,8 +78,8 @@ fn put_entry(out: &mut [u8], at: usize, names: &[u8], entry: Listed) -> usize
 
 // The lines of all entries.
 fn put_entries(out: &mut [u8], at: usize, directory: Directory) -> usize
-    requires { ⌜ (at + 18304 ≤ length (now out)) × (directory .entries ≤ 128) ⌝ }
-    ensures { λ r. ⌜ Put 18304 (entryTexts directory (directory .entries)) (now (out .entry)) (now (out .exit)) at r ⌝ }
+    requires { ⌜ (at + 20992 ≤ length (now out)) × (directory .entries ≤ 128) ⌝ }
+    ensures { λ r. ⌜ Put 20992 (entryTexts directory (directory .entries)) (now (out .entry)) (now (out .exit)) at r ⌝ }
 {
     let mut next = at;
     let mut i: usize = 0;
@@ -81,6 +91,7 @@ fn put_entries(out: &mut [u8], at: usize, directory: Directory) -> usize
             size: directory.sizes[i],
             count: directory.counts[i],
             record_size: directory.record_sizes[i],
+            rank: directory.ranks[i],
         };
         next = put_entry(out, next, &directory.names, entry);
         i += 1;
@@ -99,8 +110,8 @@ fn put_refusal(out: &mut [u8], at: usize, refusal: Refusal) -> usize
 }
 
 fn put_accepted(out: &mut [u8], at: usize, size: usize, directory: Directory) -> usize
-    requires { ⌜ (at + 18339 ≤ length (now out)) × (directory .entries ≤ 128) ⌝ }
-    ensures { λ r. ⌜ Put 18339 (acceptedText size directory) (now (out .entry)) (now (out .exit)) at r ⌝ }
+    requires { ⌜ (at + 21027 ≤ length (now out)) × (directory .entries ≤ 128) ⌝ }
+    ensures { λ r. ⌜ Put 21027 (acceptedText size directory) (now (out .entry)) (now (out .exit)) at r ⌝ }
 {
     let begun = put_text(out, at, b"size ");
     let sized = put_number(out, begun, size as u64, b'\n');
@@ -127,7 +138,7 @@ fn write_longer(out: &mut [u8]) -> usize
     put_text(out, 0, b"longer than 65536\n")
 }
 
-// What the program writes for an input, into a room that any listing fits: 128 lines of at most 143 bytes, and two more.
+// What the program writes for an input, into a room that any listing fits: 128 lines of at most 164 bytes, and two more.
 pub fn list_product(p: &[u8], out: &mut [u8]) -> usize
     requires { ⌜ 32768 ≤ length (now out) ⌝ }
     ensures { λ r. ⌜ Written 32768 (listing (now (p .entry))) (now (out .entry)) (now (out .exit)) r ⌝ }

@@ -23,7 +23,7 @@ use Rattle.layout.proofs.Replies.{else-is, else-refusal}
 use Rattle.layout.proofs.Sound.{both-accept, sound, directory-from, length-directory}
 use Rattle.layout.proofs.Whole.{record-inside}
 use Rattle.directory.specs.Numbers.{directoryWith}
-use Rattle.directory.proofs.Held.{with-numbers}
+use Rattle.directory.proofs.Rules.{with-numbers}
 use Rattle.opening.specs.Opening.{Opened}
 use Rattle.opening.specs.declared.Opening.{Opening}
 use Rattle.records.specs.Open.{Open}
@@ -56,7 +56,7 @@ module _ (b : List ℕ) (o : Opening) (opened : Opened b (length b) o) where
     pub now-directory : directoryWith (o .sets) (entriesFrom b (o .dsds) (o .sets .entries)) ≡ directoryOf (directory b)
     now-directory =
         ap (directoryWith (o .sets)) (directory-from b (o .dsds) (o .sets .entries) (opened .begin fourteen) all-entries)
-        ∙ with-numbers (o .sets) (directory b) (opened .held fourteen)
+        ∙ with-numbers b (length b) fourteen (o .sets) (opened .held fourteen)
 
 -- ---- places and parts
 

@@ -1,5 +1,5 @@
 -- Theorems over the calls' promises: two results that a promise allows are equal; the records handed out, in file order behind the headers, are the
--- product; a part is empty exactly where its place is refused or has no byte.
+-- product, and the directory's ranks are that order; a part is empty exactly where its place is refused or has no byte.
 -- Assumes nothing.
 use Prim.Native.Nat.{ℕ, _+_, _-_, _^_, _≤_, _<_}
 use mathlib.Core.Bool.{Bool, true, false, cond}
@@ -7,7 +7,7 @@ use mathlib.Core.List.{List, [], _∷_, _++_, map}
 use mathlib.Core.Logic.{_↔_, _⊎_, inl, inr}
 use mathlib.Core.Path.{_≡_, refl, sym, ap, _∙_}
 use native.Mathlib.Omega.{arith}
-use lib.ListN.{length, drop, replicate, length-drop, length-replicate}
+use lib.ListN.{length, drop, getD, replicate, length-drop, length-replicate}
 use lib.Seq.{length-take-le}
 use borrow.Author.Tests.{lt-ltb}
 use Rattle.layout.specs.Bytes.{part}
@@ -18,9 +18,9 @@ use Rattle.layout.specs.States.{statesOf}
 use Rattle.layout.specs.Rules.{verdict}
 use Rattle.layout.specs.Faults.{NonEmpty}
 use Rattle.layout.specs.Records.{Span, variableLengths, lengths, recordPart, records, recordRefusal, recordPlace, sphPlace, partOf}
-use Rattle.layout.specs.Order.{fileOrder, recordsAt, recordsInOrder}
+use Rattle.layout.specs.Order.{fileOrder, byRank, recordsAt, recordsInOrder}
 use Rattle.layout.specs.Fields.{fieldReply, pointReply}
-use Rattle.layout.specs.Answers.{verdictIs, placeIs, fieldAnswerIs, pointAnswerIs, directoryFor}
+use Rattle.layout.specs.Answers.{verdictIs, placeIs, fieldAnswerIs, pointAnswerIs, directoryOf, directoryFor}
 use Rattle.values.specs.Header.{headerFor}
 use Rattle.layout.specs.declared.Verdict.{Verdict}
 use Rattle.layout.specs.declared.Place.{Place}
@@ -33,6 +33,7 @@ use Rattle.layout.proofs.Maps.{one-verdict, one-place, one-field-answer, one-po
 use Rattle.layout.proofs.Tests.{variable-T}
 use Rattle.layout.proofs.Sound.{length-directory, accepted-entries, sound}
 use Rattle.layout.proofs.Whole.{joins, only-sets-in-order}
+use Rattle.layout.proofs.Ranks.{is-set, rank-of-set, set-of-rank, no-rank, by-rank}
 use Rattle.product.proofs.Calls.{sph-within, record-within}
 
 module _ (b : List ℕ) where
@@ -137,3 +138,46 @@ module _ (b : List ℕ) where
       pub calls-join : part b 0 1247 ++ (part b 1247 (headersEnd b - 1247) ++ join (join (map recordsBy (fileOrder ds)))) ≡ b
       unfolding recordsInOrder
       calls-join = let m = sound b accepts in rw (map-all (fileOrder ds) (only-sets-in-order b m)) (joins b m)
+
+    -- ---- the ranks that the directory answers
+
+    module _ (x : DirectoryAnswer) (listed : x .directory ≡ directoryFor (verdict b) b) where
+      answered : x .directory ≡ directoryOf ds
+      answered = listed ∙ rw accepts
+
+      abbrev rankBy : ℕ → ℕ
+      rankBy i = getD (x .directory .ranks) i 0
+
+      -- how many sets there are: NUM_DATA_SETS says it (`sets-counted`)
+      abbrev sets : ℕ
+      sets = length (fileOrder ds)
+
+      -- the sets by rank, 0 to the last, are file order
+      abbrev setsByRank : List ℕ
+      setsByRank = byRank (x .directory .ranks) (x .directory .entries) sets
+
+      pub ranks-are-file-order : setsByRank ≡ fileOrder ds
+      unfolding directoryOf
+      ranks-are-file-order = rw answered (by-rank b (sound b accepts))
+
+      -- each of 0, 1 and so on is the rank of a non-empty set
+      pub rank-each : (r : ℕ) → r < sets → (getD setsByRank r 0 < x .directory .entries) × NonEmpty (at ds (getD setsByRank r 0)) × (rankBy (getD setsByRank r 0) ≡ r)
+      unfolding directoryOf
+      rank-each r l =
+          let set = is-set b (sound b accepts) r l in
+          rw (ranks-are-file-order, answered) (set .0, set .1, rank-of-set b (sound b accepts) r l)
+
+      -- and of that one alone: a non-empty set is the one of its rank
+      pub rank-once : (i : ℕ) → i < x .directory .entries → NonEmpty (at ds i) → (rankBy i < sets) × (getD setsByRank (rankBy i) 0 ≡ i)
+      unfolding directoryOf
+      rank-once i l h = rw (ranks-are-file-order, answered) (set-of-rank b (sound b accepts) i (rw answered at l) h)
+
+      -- every other entry has 128
+      pub rank-none : (i : ℕ) → i < x .directory .entries → (NonEmpty (at ds i) → ⊥) → rankBy i ≡ 128
+      unfolding directoryOf
+      rank-none i l h = rw answered (no-rank b (sound b accepts) i (rw answered at l) h)
+
+      -- headers, and the records by calls, sets by rank, are the product
+      pub ranks-join : (call : ℕ → ℕ → List ℕ) (promise : (i j : ℕ) → i < usize → j < usize → call i j ≡ partOf b (recordPlace b i j))
+          → part b 0 1247 ++ (part b 1247 (headersEnd b - 1247) ++ join (join (map (recordsBy call promise) setsByRank))) ≡ b
+      ranks-join call promise = rw ranks-are-file-order (calls-join call promise)

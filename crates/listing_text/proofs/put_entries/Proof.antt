@@ -1,4 +1,4 @@
--- `listing_text::put_entries` meets its contract. The loop's invariant: the lines of the first `i` entries are put, each of at most 143 bytes.
+-- `listing_text::put_entries` meets its contract. The loop's invariant: the lines of the first `i` entries are put, each of at most 164 bytes.
 -- Assumes nothing.
 use Prim.Native.Nat.{_+_, _*_, _-_, _≤_}
 use mathlib.Core.Path.{_≡_, sym, ap}
@@ -17,7 +17,7 @@ use Rattle.listing_text.proofs.put_entries.Statement.{statement}
 use Rattle.listing_text.proofs.put_entries.Tie as tie
 
 abbrev Inv-loop : tie.InvT-loop
-Inv-loop out₀ at directory next₀ i₀ out next i = (i ≤ directory .entries) × Put (143 * i) (entryTexts directory i) out₀ out at next
+Inv-loop out₀ at directory next₀ i₀ out next i = (i ≤ directory .entries) × Put (164 * i) (entryTexts directory i) out₀ out at next
 
 abbrev μ-loop : tie.MeasureT-loop
 μ-loop out₀ at directory next₀ i₀ out next i = directory .entries - i
@@ -73,7 +73,7 @@ loop-again c =
     let back = toZ-ofZ {w = w64} {z = size} (record { sfits = c .before .before .before .before .before .before .before .t27 .given }) in
     let put = turn .inv .1 in
     let more = spelled (sym (texts-more d i)) (then put (spelled (read-line d i (toZ w64 (ofZ w64 size)) back) (c .before .before .put-entry .ensures))) in
-    (omega arith, at-most (143 * (i + 1)) more (omega (arith, more .narrow)))
+    (omega arith, at-most (164 * (i + 1)) more (omega (arith, more .narrow)))
 
 same-length : tie.Need-same-length Inv-loop μ-loop
 same-length c = rw (c .before .loop .inv .1 .written, length-sets)
@@ -83,7 +83,7 @@ returns c =
     let put = c .before .loop .inv .1 in
     let d = c .before .before .before .args .t3 in
     let e : c .before .loop .i ≡ d .entries = omega arith in
-    spelled (ap (entryTexts d) e) (at-most 18304 put (omega (arith, put .narrow)))
+    spelled (ap (entryTexts d) e) (at-most 20992 put (omega (arith, put .narrow)))
 
 pub put-entries-spec : {M : Type 1} → statement M
 put-entries-spec =

@@ -30,7 +30,7 @@ returns c =
     let a = c .before .before .before .before .before .before .before .before .before .before .before .before .before .before .before .before .before .before .args in
     let put = then (c .before .before .before .before .before .before .before .before .before .before .before .before .before .put-text .ensures) (then (c .before .before .before .before .before .before .before .before .before .put-number .ensures) (c .before .before .put-text2 .ensures)) in
     let line = spelled (spare-line (a .names .now) (a .entry) (c .before .before .before .before .before .if1 .taken)) put in
-    at-most 143 line (omega (arith, line .narrow))
+    at-most 164 line (omega (arith, line .narrow))
 
 put-values-requires : tie.Need-put-values-requires
 put-values-requires c κs = search needs
