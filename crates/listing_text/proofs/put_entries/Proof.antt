@@ -52,10 +52,16 @@ mul-t24 c = omega arith
 element-copy-out-t27 : tie.Need-element-copy-out-t27 Inv-loop μ-loop
 element-copy-out-t27 c = omega arith
 
+mul-t28 : tie.Need-mul-t28 Inv-loop μ-loop
+mul-t28 c = omega arith
+
+element-copy-out-t31 : tie.Need-element-copy-out-t31 Inv-loop μ-loop
+element-copy-out-t31 c = omega arith
+
 put-entry-requires : tie.Need-put-entry-requires Inv-loop μ-loop
 put-entry-requires c κs =
-    let s = c .before .before .before .before .before .before .before .before .before .before .before .before in
-    let put = c .before .before .before .before .before .before .before .before .before .before .loop .inv .1 in
+    let s = c .before .before .before .before .before .before .before .before .before .before .before .before .before in
+    let put = c .before .before .before .before .before .before .before .before .before .before .before .loop .inv .1 in
     (rw (put .written, length-sets (s .args .out .now) (s .args .at)) (omega (arith, s .pre, put .next, put .narrow)), (omega arith, simp length-map at (s .good .1 .1 .0 .1 .1 .1 .1 .0 .1 .0 .1)))
 
 add-i : tie.Need-add-i Inv-loop μ-loop
@@ -66,11 +72,11 @@ loop-less c = omega arith
 
 loop-again : tie.Need-loop-again Inv-loop μ-loop
 loop-again c =
-    let turn = c .before .before .before .before .before .before .before .before .before .before .before .before .before .loop in
+    let turn = c .before .before .before .before .before .before .before .before .before .before .before .before .before .before .loop in
     let i = turn .i in
-    let d = c .before .before .before .before .before .before .before .before .before .before .before .before .before .before .before .args .t3 in
+    let d = c .before .before .before .before .before .before .before .before .before .before .before .before .before .before .before .before .args .t3 in
     let size = getD (d .«record_sizes») i (pos 0) in
-    let back = toZ-ofZ {w = w64} {z = size} (record { sfits = c .before .before .before .before .before .before .before .t27 .given }) in
+    let back = toZ-ofZ {w = w64} {z = size} (record { sfits = c .before .before .before .before .before .before .before .before .t27 .given }) in
     let put = turn .inv .1 in
     let more = spelled (sym (texts-more d i)) (then put (spelled (read-line d i (toZ w64 (ofZ w64 size)) back) (c .before .before .put-entry .ensures))) in
     (omega arith, at-most (164 * (i + 1)) more (omega (arith, more .narrow)))
@@ -101,6 +107,8 @@ put-entries-spec =
     element-copy-out-t23
     mul-t24
     element-copy-out-t27
+    mul-t28
+    element-copy-out-t31
     put-entry-requires
     add-i
     loop-less
