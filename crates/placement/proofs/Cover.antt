@@ -52,7 +52,7 @@ module _ (ds : List Entry) (offsets sizes : List ℕ) (held : Held ds offsets si
   unfolding holdsAt holds coversAt covers
   holds-same p i l = rw (held .filled i l, held .starts i l, held .extents i l)
 
-  same14 : (p : ℕ) → rule14At ds p ≡ rule14By offsets sizes (length ds) p
+  pub same14 : (p : ℕ) → rule14At ds p ≡ rule14By offsets sizes (length ds) p
   unfolding rule14At rule14By isCovered
   same14 p = rw (some-same (holdsAt ds p) (coversAt offsets sizes p) 0 (length ds) (λ i v u. holds-same p i (omega arith)))
 

@@ -124,7 +124,7 @@ some-false t i (suc n) h = rw (h i (omega arith) (omega arith), some-false t (su
 -- ---- the rules over a directory that the arrays hold
 
 module _ (ds : List Entry) (offsets sizes : List ℕ) (held : Held ds offsets sizes) where
-  same12 : (h n i : ℕ) → i < length ds → rule12At ds h n i ≡ rule12By offsets sizes h n i
+  pub same12 : (h n i : ℕ) → i < length ds → rule12At ds h n i ≡ rule12By offsets sizes h n i
   unfolding rule12At rule12By setInside isInside
   same12 h n i l = rw (held .filled i l, held .starts i l, held .extents i l)
 
@@ -132,7 +132,7 @@ module _ (ds : List Entry) (offsets sizes : List ℕ) (held : Held ds offsets si
   unfolding sharesAt shares overlapsAt overlaps
   shares-same i j l m = rw (held .filled i l, held .filled j m, held .starts i l, held .extents i l, held .starts j m, held .extents j m)
 
-  same13 : (i : ℕ) → i < length ds → rule13At ds i ≡ rule13By offsets sizes i
+  pub same13 : (i : ℕ) → i < length ds → rule13At ds i ≡ rule13By offsets sizes i
   unfolding rule13At rule13By
   same13 i l = rw (held .starts i l, some-same (sharesAt ds i) (overlapsAt offsets sizes i) 0 i (λ j v u. shares-same i j l (omega arith)))
 
