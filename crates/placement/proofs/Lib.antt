@@ -1,4 +1,4 @@
 mod Sets
 mod Cover
-mod Joined
 pub mod Laid
+mod Joined

@@ -1,16 +1,17 @@
--- `placement::are_joined` meets its contract: the sets so far are joined, from the headers' end to `end`.
+-- `placement::are_joined` meets its contract: the sets so far lie as rules 12 to 14 say, from the headers' end to `end`.
 -- Assumes nothing.
 use Prim.Native.Nat.{_≤_, _-_}
 use mathlib.Core.Bool.{false≢true}
 use native.Mathlib.Omega.{arith}
 use borrow.Author.Needs.{needs}
 use borrow.Author.Tests.{eqb-true, not-false}
-use Rattle.placement.proofs.Joined.{JoinedTo, joined-none, joined-more, joined-all}
+use Rattle.placement.proofs.Laid.{Laid}
+use Rattle.placement.proofs.Joined.{joined-none, joined-more, joined-all}
 use Rattle.placement.proofs.are_joined.Statement.{statement}
 use Rattle.placement.proofs.are_joined.Tie as tie
 
 abbrev Inv-loop : tie.InvT-loop
-Inv-loop offsets sizes entries headers-end length end₀ i₀ end i = (i ≤ entries) × (end ≤ length) × JoinedTo offsets sizes entries headers-end length i end
+Inv-loop offsets sizes entries headers-end length end₀ i₀ end i = (i ≤ entries) × (headers-end ≤ end) × (end ≤ length) × Laid offsets sizes i headers-end end
 
 abbrev μ-loop : tie.MeasureT-loop
 μ-loop offsets sizes entries headers-end length end₀ i₀ end i = entries - i
@@ -19,7 +20,7 @@ returns : tie.Need-returns Inv-loop μ-loop
 returns c = λ e. absurd (false≢true e)
 
 loop-holds : tie.Need-loop-holds Inv-loop μ-loop
-loop-holds c = (omega arith, omega arith, joined-none _ _ _ _ _)
+loop-holds c = (omega arith, omega arith, omega arith, joined-none _ _ _)
 
 mul-size : tie.Need-mul-size Inv-loop μ-loop
 mul-size c = omega arith
@@ -51,10 +52,11 @@ loop-less c = omega arith
 loop-again : tie.Need-loop-again Inv-loop μ-loop
 loop-again c =
     let next = c .before .follows .ensures (not-false _ (c .if2 .left)) in
-    (omega arith, next .1, joined-more _ _ _ _ _ _ _ (c .before .before .before .before .before .loop .inv .2) (omega arith) (omega arith) next)
+    let inv = c .before .before .before .before .before .loop .inv in
+    (omega arith, omega arith, next .1, joined-more _ _ _ _ _ (inv .1) (inv .3) (next .0))
 
 returns-3 : tie.Need-returns-3 Inv-loop μ-loop
-returns-3 c = λ e. joined-all _ _ _ _ _ _ _ (c .before .loop .inv .2) (omega arith) (eqb-true _ _ e)
+returns-3 c = λ e. joined-all _ _ _ _ _ _ _ (c .before .loop .inv .3) (omega arith) (eqb-true _ _ e)
 
 pub are-joined-spec : {M : Type 1} → statement M
 are-joined-spec =
