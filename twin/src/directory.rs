@@ -2,9 +2,10 @@
 
 use crate::descriptors::{filename_in, name_in, ENTRIES, FILENAME_LENGTH, NAME_LENGTH};
 use crate::judged::Judged;
+use crate::sets::ranks;
 
-/// The entries of a product, one place of each array for each entry. A spare has type 32, blank texts
-/// and zeros; a place past the last entry is all zero.
+/// The entries of a product, one place of each array for each entry. A spare has type 32, blank texts,
+/// zeros and rank 128; a place past the last entry is all zero.
 #[derive(Clone, Debug, PartialEq, Eq)]
 pub struct Directory {
     pub entry_count: usize,
@@ -15,6 +16,8 @@ pub struct Directory {
     pub sizes: [u64; ENTRIES],
     pub counts: [u64; ENTRIES],
     pub record_sizes: [i64; ENTRIES],
+    /// How many non-empty sets have a smaller offset; [`crate::NO_RANK`] for an empty set, an R entry and a spare.
+    pub ranks: [u8; ENTRIES],
 }
 
 impl Directory {
@@ -28,6 +31,7 @@ impl Directory {
             sizes: [0; ENTRIES],
             counts: [0; ENTRIES],
             record_sizes: [0; ENTRIES],
+            ranks: ranks(judged.entries()),
         };
         for (entry, values) in judged.entries().iter().enumerate() {
             let descriptor = judged.descriptor(entry);

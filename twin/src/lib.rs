@@ -25,6 +25,7 @@ pub use fields::{FieldAnswer, Point, Time};
 pub use listing::{listing, LONGEST_LISTED};
 pub use main_header::HeaderValues;
 pub use refusal::{Refusal, Verdict, NO_ENTRY};
+pub use sets::NO_RANK;
 
 use judged::Judged;
 use layout::MAIN_HEADER_SIZE;

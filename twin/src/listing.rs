@@ -2,9 +2,10 @@
 
 use std::io::Write;
 
-use crate::descriptors::{name_in, SPARE};
+use crate::descriptors::{name_in, Entry, SPARE};
 use crate::judged::Judged;
 use crate::refusal::Refusal;
+use crate::sets::ranks;
 
 /// The longest input that is listed.
 pub const LONGEST_LISTED: usize = 65_536;
@@ -28,6 +29,7 @@ pub fn listing(input: &[u8]) -> Vec<u8> {
 
 fn write_entries(lines: &mut Vec<u8>, judged: &Judged) -> std::io::Result<()> {
     writeln!(lines, "size {}", judged.product.len())?;
+    let ranks = ranks(judged.entries());
     for (entry, values) in judged.entries().iter().enumerate() {
         if values.set_type == SPARE {
             writeln!(lines, "entry {entry} spare")?;
@@ -35,8 +37,8 @@ fn write_entries(lines: &mut Vec<u8>, judged: &Judged) -> std::io::Result<()> {
         }
         write!(lines, "entry {entry} {} ", char::from(values.set_type))?;
         lines.extend_from_slice(without_trailing_blanks(name_in(judged.descriptor(entry))));
-        let (offset, size) = (values.offset, values.size);
-        writeln!(lines, " {offset} {size} {} {}", values.count, values.record_size)?;
+        let Entry { offset, size, count, record_size, .. } = values;
+        writeln!(lines, " {offset} {size} {count} {record_size} {}", ranks[entry])?;
     }
     writeln!(lines, "accepted")
 }

@@ -14,7 +14,7 @@ pub const POINT_WORDS: usize = 3;
 pub const POINT_DOUBLES: usize = 3;
 pub const HEADER_WORDS: usize = 25;
 pub const HEADER_TEXTS: usize = 289;
-pub const DIRECTORY_WORDS: usize = 644;
+pub const DIRECTORY_WORDS: usize = 772;
 pub const DIRECTORY_TEXTS: usize = 11_520;
 
 /// A public call with all that is asked but the product.
@@ -103,6 +103,7 @@ fn directory_answer(opened: Result<Directory, Refusal>) -> Answer {
     words.extend(directory.sizes);
     words.extend(directory.counts);
     words.extend(directory.record_sizes.map(|size| size as u64));
+    words.extend(directory.ranks.map(u64::from));
     let bytes = [directory.names.as_flattened(), directory.filenames.as_flattened()].concat();
     Answer { words, bytes, double_bits: Vec::new() }
 }
@@ -177,7 +178,7 @@ fn point_answer(answered: Result<Point, Refusal>) -> Answer {
     Answer { words: vec![0; POINT_WORDS], bytes: Vec::new(), double_bits }
 }
 
-/// Where the five words of an entry stand in the directory's words.
-pub fn entry_words(directory: &Answer, entry: usize) -> [u64; 5] {
-    [0, 1, 2, 3, 4].map(|array| directory.words[4 + array * ENTRIES + entry])
+/// The six words of an entry among the directory's: type, offset, size, count, record size and rank.
+pub fn entry_words(directory: &Answer, entry: usize) -> [u64; 6] {
+    [0, 1, 2, 3, 4, 5].map(|array| directory.words[4 + array * ENTRIES + entry])
 }

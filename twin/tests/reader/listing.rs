@@ -8,8 +8,8 @@ fn listed(name: &str) -> String {
 }
 
 #[test]
-fn case_b_is_listed_as_in_document_01() {
-    assert_eq!(listed("case-b"), "size 1542\nentry 0 G DEMO 1527 15 3 5\naccepted\n");
+fn case_b_is_listed_as_in_order_10() {
+    assert_eq!(listed("case-b"), "size 1542\nentry 0 G DEMO 1527 15 3 5 0\naccepted\n");
 }
 
 #[test]
@@ -27,17 +27,18 @@ fn a_refusal_is_one_line() {
 
 #[test]
 fn every_form_of_entry_has_its_line() {
-    let lines = "size 2930\nentry 0 spare\nentry 1 R LEVEL_0_PRODUCT 0 0 0 0\n\
-        entry 2 A  9223372036854775807 0 0 9999999999\nentry 3 G ANY  NAME 0 0 0 -1\n\
-        entry 4 M  NADIR 2927 3 1 3\nentry 5 spare\naccepted\n";
+    let lines = "size 2930\nentry 0 spare\nentry 1 R LEVEL_0_PRODUCT 0 0 0 0 128\n\
+        entry 2 A  9223372036854775807 0 0 9999999999 128\nentry 3 G ANY  NAME 0 0 0 -1 128\n\
+        entry 4 M  NADIR 2927 3 1 3 0\nentry 5 spare\naccepted\n";
     assert_eq!(listed("every-entry-form"), lines);
-    assert_eq!(listed("minus-zeros"), "size 1527\nentry 0 R FILE 0 0 0 0\naccepted\n");
+    assert_eq!(listed("minus-zeros"), "size 1527\nentry 0 R FILE 0 0 0 0 128\naccepted\n");
 }
 
 #[test]
 fn variable_sets_show_minus_one() {
-    let lines = "size 13819\nentry 0 A STATES 2692 11096 8 1387\nentry 1 M NADIR 13788 31 5 -1\n\
-        entry 2 M NADIR 2661 31 5 -1\nentry 3 M LIMB 2647 14 3 -1\nentry 4 M MONITORING 0 0 0 -1\naccepted\n";
+    let lines = "size 13819\nentry 0 A STATES 2692 11096 8 1387 2\nentry 1 M NADIR 13788 31 5 -1 3\n\
+        entry 2 M NADIR 2661 31 5 -1 1\nentry 3 M LIMB 2647 14 3 -1 0\n\
+        entry 4 M MONITORING 0 0 0 -1 128\naccepted\n";
     assert_eq!(listed("unequal-lengths"), lines);
 }
 
@@ -49,11 +50,11 @@ fn the_limit_is_65536_bytes() {
     assert_eq!(listing(&[0; 65_536]), b"refused 3 0 128\n");
 }
 
-/// `size`, 128 lines with a name of 28 bytes, an offset of 19 digits and a record size of 10, and `accepted`.
+/// `size`, 128 lines with a name of 28 bytes, an offset of 19 digits, a record size of 10 and rank 128, and `accepted`.
 #[test]
-fn the_longest_listing_has_9638_bytes() {
+fn the_longest_listing_has_10150_bytes() {
     let listed = listing(&Generator::new(1).longest_listing());
-    assert_eq!(listed.len(), 9638);
+    assert_eq!(listed.len(), 10_150);
     assert_eq!(listed.iter().filter(|&&byte| byte == b'\n').count(), 130);
     assert!(listed.ends_with(b"accepted\n"));
 }

@@ -39,7 +39,7 @@ fn answers_have_their_lengths_accepted_or_refused() {
         let product = named_product(name).unwrap();
         for (call, words, bytes, doubles) in [
             (Call::Judge, 3, 0, 0),
-            (Call::OpenDirectory, 644, 11_520, 0),
+            (Call::OpenDirectory, 772, 11_520, 0),
             (Call::HeaderValues, 25, 289, 0),
             (Call::SphPlace, 5, 0, 0),
             (Call::RecordPlace { entry: 0, record: 0 }, 5, 0, 0),
@@ -104,10 +104,11 @@ fn header_values_stand_in_the_order_of_their_lines() {
 fn a_directory_stands_array_after_array() {
     let answer = Call::OpenDirectory.answer(&named_product("unequal-lengths").unwrap());
     assert_eq!(answer.words[..4], [0, 0, 0, 5]);
-    assert_eq!(words::entry_words(&answer, 2), [u64::from(b'M'), 2661, 31, 5, u64::MAX]);
+    assert_eq!(words::entry_words(&answer, 2), [u64::from(b'M'), 2661, 31, 5, u64::MAX, 1]);
     assert_eq!(answer.words[4..10], [65, 77, 77, 77, 77, 0]);
     assert_eq!(answer.words[132 + 3], 2647);
     assert_eq!(answer.words[516], 1387);
+    assert_eq!(answer.words[644..650], [2, 3, 1, 0, 128, 0]);
     assert!(answer.bytes[3 * 28..].starts_with(b"LIMB    "));
     assert_eq!(answer.bytes[5 * 28..3584], [0; 123 * 28]);
     assert_eq!(answer.bytes[3584..3584 + 5 * 62], [b' '; 5 * 62]);
