@@ -7,7 +7,7 @@ use crate::words::{entry_words, Answer, Call};
 use crate::LONGEST_LISTED;
 
 /// The products whose text is stored, in its order.
-pub const VECTOR_PRODUCTS: [&str; 31] = [
+pub const VECTOR_PRODUCTS: [&str; 32] = [
     "case-b",
     "case-k",
     "case-l",
@@ -37,6 +37,7 @@ pub const VECTOR_PRODUCTS: [&str; 31] = [
     "empty-set-uncounted",
     "empty-set-counted",
     "all-sets-empty",
+    "sets-out-of-order",
     "listed-last",
     "listed-no-more",
 ];

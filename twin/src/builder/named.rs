@@ -3,6 +3,7 @@
 
 use super::catalogue::{catalogue_description, thousand_states, CATALOGUE_NAMES};
 use super::description::{Description, EntryDescription, Number, StateDescription};
+use super::generator::Generator;
 use crate::refusal::{Verdict, NO_ENTRY};
 
 /// What is asked of a named product.
@@ -44,7 +45,7 @@ const LARGEST: u64 = i64::MAX as u64;
 const TOO_LARGE: Number = Number { minus: false, magnitude: 1 << 63 };
 
 /// The named products but those of [`CATALOGUE_NAMES`], which are all accepted, and `wrapping-states`.
-pub const NAMED_PRODUCTS: [NamedProduct; 57] = [
+pub const NAMED_PRODUCTS: [NamedProduct; 60] = [
     accepted("case-a", case_a),
     accepted("case-b", case_b),
     refused("case-c", case_c, (12, 1526, 0)),
@@ -58,6 +59,8 @@ pub const NAMED_PRODUCTS: [NamedProduct; 57] = [
     asked(accepted("case-k", case_k), POINT),
     asked(refused("case-l", case_l, (21, 0, 0)), POINT),
     accepted("descriptors-128", || one_byte_sets(128).build()),
+    accepted("descriptors-128-reversed", || one_byte_sets_in_order(|order| order.reverse())),
+    accepted("descriptors-128-shuffled", || one_byte_sets_in_order(shuffle)),
     refused("descriptors-129", || one_byte_sets(129).build(), (6, 1140, NO_ENTRY)),
     accepted("sph-49152", || long_sph(49_152).build()),
     refused("sph-49153", || long_sph(49_153).build(), (6, 1113, NO_ENTRY)),
@@ -99,6 +102,7 @@ pub const NAMED_PRODUCTS: [NamedProduct; 57] = [
     accepted("empty-set-uncounted", || demo_and_empty_set(1)),
     refused("empty-set-counted", || demo_and_empty_set(2), (11, 1194, NO_ENTRY)),
     accepted("all-sets-empty", all_sets_empty),
+    accepted("sets-out-of-order", sets_out_of_order),
     refused("wrapping-records", wrapping_records, (10, 1247, 0)),
     refused("wrapping-set-end", wrapping_set_end, (12, LARGEST, 0)),
     refused("two-overlaps", two_overlaps, (13, 2382, 2)),
@@ -206,6 +210,20 @@ fn case_l() -> Vec<u8> {
 fn one_byte_sets(entries: usize) -> Description {
     let set = |entry: usize| EntryDescription::new(b'G', "DEMO", vec![entry as u8]);
     Description::new((0..entries).map(set).collect())
+}
+
+/// 128 sets of one byte, in the file in the order of their entries as rearranged.
+fn one_byte_sets_in_order(rearrange: fn(&mut [usize])) -> Vec<u8> {
+    let mut description = one_byte_sets(128);
+    let mut order: Vec<usize> = (0..128).collect();
+    rearrange(&mut order);
+    description.place_in_order(&order);
+    description.build()
+}
+
+/// The same shuffle at every call, without a pattern that a reader could make use of.
+fn shuffle(order: &mut [usize]) {
+    Generator::new(10).shuffle(order);
 }
 
 fn long_sph(size: usize) -> Description {
@@ -329,6 +347,22 @@ fn all_sets_empty() -> Vec<u8> {
     entries[2].size = Some(Number::MINUS_ZERO);
     let mut description = Description::new(entries.to_vec());
     description.set_number("NUM_DATA_SETS", 0);
+    description.build()
+}
+
+/// Sets whose names say where they stand in the file, none at the place that its entry has among the entries of sets.
+/// The empty set points into SECOND: where it is counted, THIRD and FOURTH have a wrong rank.
+fn sets_out_of_order() -> Vec<u8> {
+    let mut description = Description::new(vec![
+        EntryDescription::records(b'M', "SECOND", 2, 3),
+        EntryDescription::new(b'R', "FILE", Vec::new()),
+        EntryDescription::records(b'A', "FOURTH", 1, 3),
+        EntryDescription::new(b'G', "EMPTY", Vec::new()).at(3213),
+        EntryDescription::records(b'G', "FIRST", 4, 1),
+        EntryDescription::spare(),
+        EntryDescription::records(b'M', "THIRD", 1, 2),
+    ]);
+    description.place_in_order(&[4, 0, 6, 2]);
     description.build()
 }
 
