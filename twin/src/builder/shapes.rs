@@ -72,13 +72,30 @@ impl Generator {
         entries
     }
 
-    /// Puts the sets one behind another in the order of their entries, or in another.
+    /// Puts the sets one behind another: in the order of their entries once in three times, the other way round once
+    /// in six, otherwise in any order.
     fn place_sets(&mut self, description: &mut Description) {
         let mut order: Vec<usize> = (0..description.entries.len()).collect();
-        if self.once_in(2) {
-            self.shuffle(&mut order);
+        match self.below(6) {
+            0 | 1 => {}
+            2 => order.reverse(),
+            _ => self.shuffle(&mut order),
         }
         description.place_in_order(&order);
+        self.point_empty_sets(description);
+    }
+
+    /// Lets empty sets point, once in three times, to the first bytes of a set, so that they lie among the others.
+    fn point_empty_sets(&mut self, description: &mut Description) {
+        let filled = description.entries.iter().filter(|entry| !entry.data.is_empty());
+        let starts: Vec<Number> = filled.filter_map(|entry| entry.offset).collect();
+        for entry in description.entries.iter_mut().filter(|entry| is_empty_set(entry)) {
+            if !starts.is_empty() && self.once_in(3) {
+                let Number { magnitude, .. } = self.choose(&starts);
+                let behind = u128::from(self.below(3));
+                entry.offset = Some(Number { minus: false, magnitude: magnitude + behind });
+            }
+        }
     }
 
     fn few_lines(&mut self) -> Vec<u8> {
@@ -166,4 +183,9 @@ impl Generator {
 fn has_equal_records(entry: &EntryDescription) -> bool {
     let is_states = entry.set_type == b'A' && entry.name == b"STATES";
     !entry.data.is_empty() && !is_states && entry.record_size != Some(Number::from(-1))
+}
+
+/// Whether an entry has a set, and no byte in it.
+fn is_empty_set(entry: &EntryDescription) -> bool {
+    matches!(entry.set_type, b'M' | b'A' | b'G') && entry.data.is_empty()
 }
