@@ -35,6 +35,17 @@ fn every_form_of_entry_has_its_line() {
 }
 
 #[test]
+fn ranks_stand_last_but_in_spare_lines() {
+    let lines = "size 3222\nentry 0 M SECOND 3211 6 2 3 1\nentry 1 R FILE 0 0 0 0 128\n\
+        entry 2 A FOURTH 3219 3 1 3 3\nentry 3 G EMPTY 3213 0 0 0 128\n\
+        entry 4 G FIRST 3207 4 4 1 0\nentry 5 spare\nentry 6 M THIRD 3217 2 1 2 2\naccepted\n";
+    assert_eq!(listed("sets-out-of-order"), lines);
+    let first_of_128 = |name| listed(name).lines().nth(1).unwrap().to_string();
+    assert_eq!(first_of_128("descriptors-128"), "entry 0 G DEMO 37087 1 1 1 0");
+    assert_eq!(first_of_128("descriptors-128-reversed"), "entry 0 G DEMO 37214 1 1 1 127");
+}
+
+#[test]
 fn variable_sets_show_minus_one() {
     let lines = "size 13819\nentry 0 A STATES 2692 11096 8 1387 2\nentry 1 M NADIR 13788 31 5 -1 3\n\
         entry 2 M NADIR 2661 31 5 -1 1\nentry 3 M LIMB 2647 14 3 -1 0\n\

@@ -7,6 +7,7 @@ mod header_text;
 mod listing;
 mod programs;
 mod random;
+mod ranks;
 mod records;
 mod rule_by_rule;
 mod sets;
