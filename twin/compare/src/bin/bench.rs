@@ -13,10 +13,12 @@ const ROUNDS: usize = 60;
 const ROUND: Duration = Duration::from_millis(2);
 
 /// The products by their names, and what the table calls them.
-const PRODUCTS: [(&str, &str); 8] = [
+const PRODUCTS: [(&str, &str); 10] = [
     ("case-a", "main header alone (case A)"),
     ("states-1000", "41 entries, 1,000 states"),
     ("descriptors-128", "128 entries of one byte"),
+    ("descriptors-128-reversed", "128 entries of one byte, reversed"),
+    ("descriptors-128-shuffled", "128 entries of one byte, shuffled"),
     ("spares-128", "128 spares"),
     ("sph-49152", "49,152 bytes of SPH: one blank line"),
     ("sph-long-lines", "49,152 bytes of SPH: long lines"),
