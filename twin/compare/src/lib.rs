@@ -2,6 +2,7 @@
 
 mod comparing;
 mod empty_sets;
+mod file_order;
 mod header_numbers;
 pub mod library;
 mod mapping;

@@ -1,9 +1,10 @@
 //! What was met in the answers that both gave: how many were refused by which number, both sides of the count of
-//! sets, and the largest products.
+//! sets, sets in another order than their entries', and the largest products.
 
 use twin::words::{Answer, Call};
 
 use crate::empty_sets::{counts_empty_sets, has_empty_set};
+use crate::file_order::is_out_of_entry_order;
 
 /// Where SPH_SIZE stands in the words of the header values.
 pub(crate) const SPH_SIZE_WORD: usize = 21;
@@ -24,6 +25,10 @@ pub struct Met {
     /// only because theirs does not.
     pub empty_sets_left_out: u64,
     pub empty_sets_counted: u64,
+    /// Accepted products whose sets stand in the file in another order than their entries do, and the most entries
+    /// of one.
+    pub out_of_entry_order: u64,
+    pub most_entries_out_of_order: u64,
     /// Of the accepted products.
     pub most_entries: u64,
     pub longest_sph: u64,
@@ -41,12 +46,21 @@ impl Met {
             Call::OpenDirectory => {
                 self.empty_sets_left_out += u64::from(has_empty_set(answer));
                 self.most_entries = self.most_entries.max(answer.words[ENTRIES_WORD]);
+                self.count_order(answer);
             }
             Call::HeaderValues => self.longest_sph = self.longest_sph.max(answer.words[SPH_SIZE_WORD]),
             Call::PointAt { .. } => self.points_answered += u64::from(number == 0),
             Call::SphPlace | Call::RecordPlace { .. } | Call::FieldAt { .. } => {}
         }
         self.answers[number] += 1;
+    }
+
+    fn count_order(&mut self, directory: &Answer) {
+        if is_out_of_entry_order(directory) {
+            let entries = directory.words[ENTRIES_WORD];
+            self.out_of_entry_order += 1;
+            self.most_entries_out_of_order = self.most_entries_out_of_order.max(entries);
+        }
     }
 
     /// What both have met.
@@ -59,6 +73,9 @@ impl Met {
         self.points_answered += other.points_answered;
         self.empty_sets_left_out += other.empty_sets_left_out;
         self.empty_sets_counted += other.empty_sets_counted;
+        self.out_of_entry_order += other.out_of_entry_order;
+        self.most_entries_out_of_order =
+            self.most_entries_out_of_order.max(other.most_entries_out_of_order);
         self.most_entries = self.most_entries.max(other.most_entries);
         self.longest_sph = self.longest_sph.max(other.longest_sph);
         self

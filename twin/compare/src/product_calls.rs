@@ -5,6 +5,7 @@ use twin::builder::Generator;
 use twin::words::{entry_words, Answer, Call};
 
 use crate::comparing::Comparer;
+use crate::file_order::by_rank;
 use crate::met::{ENTRIES_WORD, SPH_SIZE_WORD};
 
 /// The first byte behind the main header.
@@ -20,8 +21,8 @@ const FEW_ENTRIES: usize = 4;
 const FAR: [usize; 3] = [128, 1 << 32, usize::MAX];
 
 impl Comparer {
-    /// Every public call, with every record of an accepted product; its joined records behind the headers are
-    /// the product.
+    /// Every public call, with every record of an accepted product; its records behind the headers, joined set by set
+    /// in the order of their ranks, are the product.
     pub fn compare_all(&mut self, product: &[u8], choices: &mut Generator) {
         let directory = self.compare_whole(product, choices);
         if directory.words[0] == 0 {
@@ -52,7 +53,7 @@ impl Comparer {
     /// Every record of an accepted product, joined, and the one behind the last of each entry.
     fn compare_joined(&mut self, product: &[u8], directory: &Answer, choices: &mut Generator) {
         let mut joined = Vec::with_capacity(product.len());
-        for entry in in_file_order(directory) {
+        for entry in by_rank(directory) {
             for record in 0..count_of(directory, entry) {
                 joined.extend(self.compare_record(product, entry, record, choices));
             }
@@ -153,13 +154,4 @@ fn sph_size(product: &[u8]) -> u64 {
 /// The number of records of an entry.
 fn count_of(directory: &Answer, entry: usize) -> usize {
     entry_words(directory, entry)[3] as usize
-}
-
-/// The non-empty sets by where they start.
-fn in_file_order(directory: &Answer) -> Vec<usize> {
-    let entries = 0..directory.words[ENTRIES_WORD] as usize;
-    let filled = entries.filter(|&entry| entry_words(directory, entry)[2] > 0);
-    let mut order: Vec<usize> = filled.collect();
-    order.sort_by_key(|&entry| entry_words(directory, entry)[1]);
-    order
 }

@@ -14,8 +14,8 @@ use twin::{listing, LONGEST_LISTED};
 const SORTS: [&str; 5] = ["good-65536", "damaged-65536", "good-65535", "good-65537", "longest-listing"];
 const TURN: u64 = 20;
 
-/// The longest listing: `size`, 128 lines of a name of 28 bytes and numbers of 19, 1, 1 and 10 digits, `accepted`.
-const LONGEST_LISTING: usize = 11 + (128 * 73 + 10 + 2 * 90 + 3 * 28) + 9;
+/// The longest listing: `size`, 128 lines of a name of 28 bytes and numbers of 19, 1, 1, 10 and 3 digits, `accepted`.
+const LONGEST_LISTING: usize = 11 + (128 * 77 + 10 + 2 * 90 + 3 * 28) + 9;
 
 /// The status of a process that was made but could not become the program.
 const NOT_STARTED: i32 = 127;

@@ -155,6 +155,27 @@ fn unequal_records_reach_the_end() {
     assert_eq!(place_of(&mut comparer, mapping.bytes(), 1, 65_534)[1], 32_767);
 }
 
+/// The set of entry 0 stands behind that of entry 1, and at lower numbers where a reader keeps only 8, 16 or 24 bits
+/// of an offset.
+#[test]
+fn sets_of_the_longest_product_have_their_ranks() {
+    let middle = 0x7f00_0000;
+    let set = |start: usize, end: usize| {
+        let mut entry = EntryDescription::new(b'G', "DEMO", Vec::new()).at(start as i128);
+        entry.size = Some(Number::from((end - start) as i128));
+        entry.count = Some(Number::from(1));
+        entry.record_size = entry.size;
+        entry
+    };
+    let mut description = Description::new(vec![set(middle, LONGEST), set(1807, middle)]);
+    description.set_number("TOT_SIZE", LONGEST as i128);
+    let mapping = Mapping::beginning_with(&description.build(), LONGEST);
+    let mut comparer = Comparer::of("two sets to the longest length");
+    let directory = comparer.compare(mapping.bytes(), Call::OpenDirectory);
+    assert_eq!(directory.words[..4], [0, 0, 0, 2]);
+    assert_eq!(directory.words[644..647], [1, 0, 0]);
+}
+
 /// A set that would end one byte past the product, and one that starts there.
 #[test]
 fn sets_past_the_longest_product_are_refused() {

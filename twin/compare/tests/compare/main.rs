@@ -3,6 +3,7 @@
 mod common;
 mod cuts;
 mod fields;
+mod file_orders;
 mod header_bytes;
 mod longest;
 mod named;

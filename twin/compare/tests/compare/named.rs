@@ -49,6 +49,20 @@ fn named_products_are_answered_as_the_twin_does() {
 }
 
 #[test]
+fn ranks_are_answered_as_order_10_says() {
+    for (name, ranks) in [
+        ("case-b", &[0, 0][..]),
+        ("case-g", &[1, 0, 0]),
+        ("case-e", &[0]),
+        ("every-entry-form", &[128, 128, 128, 128, 0, 128, 0]),
+        ("sets-out-of-order", &[1, 128, 3, 128, 0, 128, 2, 0]),
+    ] {
+        let answer = Comparer::of(name).compare(&product(name), Call::OpenDirectory);
+        assert!(answer.words[644..].starts_with(ranks), "{name}: {:?}", &answer.words[644..]);
+    }
+}
+
+#[test]
 fn catalogue_products_are_answered_as_the_twin_does() {
     for name in CATALOGUE_NAMES {
         Comparer::of(name).compare_all(&product(name), &mut choices());

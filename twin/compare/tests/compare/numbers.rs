@@ -50,6 +50,7 @@ fn every_number_of_the_descriptors_has_its_edges() {
         ("case-g", 8),
         ("every-entry-form", 16),
         ("unequal-lengths", 20),
+        ("sets-out-of-order", 24),
         ("minus-zeros", 4),
         ("GOM_RR__2P", 16),
     ] {

@@ -31,8 +31,10 @@ fn assert_met(met: &Met, products: u64) {
     assert!(met.points_answered >= products / 20, "points answered: {seen}");
     assert!(met.empty_sets_left_out >= products / 100, "empty sets left out: {seen}");
     assert!(met.empty_sets_counted >= products / 100, "empty sets counted: {seen}");
+    assert!(met.out_of_entry_order >= products / 50, "sets out of entry order: {seen}");
     if products >= ENOUGH {
         assert_eq!(met.most_entries, 128, "the most entries: {seen}");
+        assert_eq!(met.most_entries_out_of_order, 128, "the most out of entry order: {seen}");
         assert!(met.longest_sph >= 40_000, "the longest SPH: {seen}");
     }
 }

@@ -22,11 +22,15 @@ fn calls(entry: usize, record: usize) -> [(Call, [usize; 2]); 9] {
     ]
 }
 
+/// Of rooms that take no more elements, every length that is too short is lent: for the words of a directory too,
+/// among them the 644 that a directory without ranks took.
+const EVERY_LENGTH: usize = 772;
+
 /// Lengths below what is needed: all of them, or of many the ones around their edges.
 fn too_short(needed: usize) -> Vec<usize> {
     let edges = [1000, 3583, 3584, 3585, 11_000, needed.wrapping_sub(2), needed.wrapping_sub(1)];
-    let others = edges.into_iter().filter(|&length| length >= 700 && length < needed);
-    (0..needed.min(700)).chain(others).collect()
+    let others = edges.into_iter().filter(|&length| length >= EVERY_LENGTH && length < needed);
+    (0..needed.min(EVERY_LENGTH)).chain(others).collect()
 }
 
 /// Lends each room of a call at every length that is too short, beside rooms that are long enough or not.
