@@ -184,7 +184,8 @@ pub fn check_numbers<'a>(
     Verdict::Accepted
 }
 
-// Rules 12 to 14, by the numbers of the entries. Where the sets stand one behind the other all three hold, and nothing is searched for.
+// Rules 12 to 14, by the numbers of the entries. Where the sets stand one behind the other, in the order of the entries or in another, all three hold,
+// and nothing is searched for.
 pub fn check_places<'a>(
     offsets: &'a [u64; 128],
     sizes: &'a [u64; 128],
@@ -196,6 +197,9 @@ pub fn check_places<'a>(
     ensures { λ r. ⌜ Placed (now (offsets .entry)) (now (sizes .entry)) entries «headers_end» length r ⌝ }
 {
     if placement::are_joined(offsets, sizes, entries, headers_end, length) {
+        return Verdict::Accepted;
+    }
+    if file_order::are_joined_in_file_order(offsets, sizes, entries, headers_end, length) {
         return Verdict::Accepted;
     }
     let outside = placement::first_outside(offsets, sizes, entries, headers_end, length);
