@@ -64,10 +64,14 @@ static void print_entry(size_t i, const uint64_t *words, const char *texts)
         printf("entry %zu: spare\n", i);
         return;
     }
-    printf("entry %zu: type %c, %.*s offset %" PRIu64 ", size %" PRIu64 ", records %" PRIu64 " of %" PRId64 " bytes\n",
+    printf("entry %zu: type %c, %.*s offset %" PRIu64 ", size %" PRIu64 ", records %" PRIu64 " of %" PRId64 " bytes",
            i, (char)words[AMBROTHEL_DIRECTORY_TYPES + i], AMBROTHEL_DIRECTORY_NAME_LENGTH, name,
            words[AMBROTHEL_DIRECTORY_OFFSETS + i], words[AMBROTHEL_DIRECTORY_SIZES + i],
            words[AMBROTHEL_DIRECTORY_COUNTS + i], (int64_t)words[AMBROTHEL_DIRECTORY_RECORD_SIZES + i]);
+    if (words[AMBROTHEL_DIRECTORY_RANKS + i] != AMBROTHEL_NO_RANK) {
+        printf(", rank %" PRIu64, words[AMBROTHEL_DIRECTORY_RANKS + i]);
+    }
+    putchar('\n');
 }
 
 static int show_directory(const uint8_t *product, size_t length)

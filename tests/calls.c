@@ -165,6 +165,35 @@ static void check_verdicts(const char *folder)
     CHECK(is_answered());
 }
 
+/* How many non-empty sets of the directory at hand start before that of entry i. No R entry or spare has a size. */
+static uint64_t sets_before(size_t i)
+{
+    uint64_t before = 0;
+    for (size_t j = 0; j < words[AMBROTHEL_DIRECTORY_ENTRIES]; j++) {
+        before += words[AMBROTHEL_DIRECTORY_SIZES + j] > 0 &&
+                  words[AMBROTHEL_DIRECTORY_OFFSETS + j] < words[AMBROTHEL_DIRECTORY_OFFSETS + i];
+    }
+    return before;
+}
+
+/* Room for the words of a directory without ranks, 644, is too short, and nothing is written. */
+static void check_short_directory(void)
+{
+    words[0] = 77;
+    CHECK(ambrothel_open_directory(product, length, words, AMBROTHEL_DIRECTORY_RANKS, bytes,
+                                   AMBROTHEL_DIRECTORY_TEXTS) == AMBROTHEL_ROOM_TOO_SHORT);
+    CHECK(words[0] == 77);
+}
+
+/* The ranks of all entries: that of a set as counted, AMBROTHEL_NO_RANK where there is none. */
+static void check_ranks(void)
+{
+    for (size_t i = 0; i < words[AMBROTHEL_DIRECTORY_ENTRIES]; i++) {
+        const int has_set = words[AMBROTHEL_DIRECTORY_SIZES + i] > 0;
+        CHECK(words[AMBROTHEL_DIRECTORY_RANKS + i] == (has_set ? sets_before(i) : AMBROTHEL_NO_RANK));
+    }
+}
+
 /* Entry 26 of the SCIAMACHY sample, NADIR, beside what its DSD says. */
 static void check_directory(const char *folder)
 {
@@ -182,10 +211,13 @@ static void check_directory(const char *folder)
     CHECK(words[AMBROTHEL_DIRECTORY_COUNTS + i] == strtoull((const char *)dsd + 208, NULL, 10));
     CHECK((int64_t)words[AMBROTHEL_DIRECTORY_RECORD_SIZES + i] == -1);
     CHECK(words[AMBROTHEL_DIRECTORY_TYPES + AMBROTHEL_MOST_ENTRIES - 1] == 0);
+    CHECK(words[AMBROTHEL_DIRECTORY_RANKS + AMBROTHEL_MOST_ENTRIES - 1] == 0);
     CHECK(memcmp(bytes + AMBROTHEL_DIRECTORY_NAMES + AMBROTHEL_DIRECTORY_NAME_LENGTH * i, dsd + 9,
                  AMBROTHEL_DIRECTORY_NAME_LENGTH) == 0);
     CHECK(memcmp(bytes + AMBROTHEL_DIRECTORY_FILENAMES + AMBROTHEL_DIRECTORY_FILENAME_LENGTH * i, dsd + 59,
                  AMBROTHEL_DIRECTORY_FILENAME_LENGTH) == 0);
+    check_ranks();
+    check_short_directory();
 }
 
 static void check_lines(void)

@@ -37,7 +37,7 @@ pub extern "C" fn ambrothel_judge(p: &[u8], words: &mut [u64]) -> u32
 pub extern "C" fn ambrothel_open_directory(p: &[u8], words: &mut [u64], texts: &mut [u8]) -> u32
     ensures { λ r. ⌜ DirectoryCall (now (p .entry)) (now (words .entry)) (now (words .exit)) (now (texts .entry)) (now (texts .exit)) r ⌝ }
 {
-    if words.len() < 644 {
+    if words.len() < 772 {
         return ROOM_TOO_SHORT;
     }
     if texts.len() < 11520 {
@@ -50,6 +50,8 @@ pub extern "C" fn ambrothel_open_directory(p: &[u8], words: &mut [u64], texts: &
     }
     let sets = opened.sets;
     let entries = sets.entries;
+    let mut ranks = [0u64; 128];
+    ranks::rank_sets(&sets.offsets, &sets.sizes, entries, &mut ranks);
     put_directory_numbers(
         words,
         Verdict::Accepted,
@@ -59,6 +61,7 @@ pub extern "C" fn ambrothel_open_directory(p: &[u8], words: &mut [u64], texts: &
         &sets.sizes,
         &sets.counts,
         &sets.record_sizes,
+        &ranks,
     );
     let dsds = opened.dsds;
     let named = directory::put_names(texts, 0, p, dsds, entries);

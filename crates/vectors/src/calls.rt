@@ -14,7 +14,7 @@ fn show_judge(p: &[u8]) -> bool {
     print_words(b"judge ", &[], &words)
 }
 
-fn show_directory(words: &[u64; 644], texts: &[u8]) -> bool
+fn show_directory(words: &[u64; 772], texts: &[u8]) -> bool
     requires { ⌜ length (now texts) ≡ 11520 ⌝ }
 {
     let head = [words[0], words[1], words[2], words[ENTRIES]];
@@ -49,7 +49,7 @@ fn show_sph_part(p: &[u8]) -> bool {
 
 // Every call on a product, up to a line that is not written.
 pub fn show_product(p: &[u8]) -> bool {
-    let mut words = [0u64; 644];
+    let mut words = [0u64; 772];
     let mut texts = [0u8; 11520];
     ambrothel::ambrothel_open_directory(p, &mut words, &mut texts);
     show_judge(p)

@@ -18,13 +18,15 @@ pub const COUNTS: usize = 388;
 
 const RECORD_SIZES: usize = 516;
 
+const RANKS: usize = 644;
+
 const NAME_LENGTH: usize = 28;
 
 const FILENAMES: usize = 3584;
 
 const FILENAME_LENGTH: usize = 62;
 
-fn show_numbers(words: &[u64; 644], i: usize) -> bool
+fn show_numbers(words: &[u64; 772], i: usize) -> bool
     requires { ⌜ i ≤ 127 ⌝ }
 {
     let numbers = [
@@ -33,6 +35,7 @@ fn show_numbers(words: &[u64; 644], i: usize) -> bool
         words[SIZES + i],
         words[COUNTS + i],
         words[RECORD_SIZES + i],
+        words[RANKS + i],
     ];
     let number = [i as u64];
     print_words(b"entry ", &number, &numbers)
@@ -54,13 +57,13 @@ fn show_filename(texts: &[u8], i: usize) -> bool
     print_numbered(b"filename ", i as u64, &texts[start..end])
 }
 
-fn show_entry(words: &[u64; 644], texts: &[u8], i: usize) -> bool
+fn show_entry(words: &[u64; 772], texts: &[u8], i: usize) -> bool
     requires { ⌜ (i ≤ 127) × (length (now texts) ≡ 11520) ⌝ }
 {
     show_numbers(words, i) && show_name(texts, i) && show_filename(texts, i)
 }
 
-pub fn show_entries(words: &[u64; 644], texts: &[u8]) -> bool
+pub fn show_entries(words: &[u64; 772], texts: &[u8]) -> bool
     requires { ⌜ length (now texts) ≡ 11520 ⌝ }
 {
     let mut i = 0;

@@ -117,7 +117,7 @@ fn show_records(p: &[u8], entry: usize, count: u64) -> bool {
 }
 
 // The records of every entry, and of the entry behind the last.
-pub fn show_all_records(p: &[u8], directory: &[u64; 644]) -> bool {
+pub fn show_all_records(p: &[u8], directory: &[u64; 772]) -> bool {
     let entries = directory[ENTRIES];
     let mut entry = 0;
     while entry < 128 {

@@ -1,5 +1,6 @@
 -- `ambrothel::ambrothel_open_directory` meets its contract.
 -- Assumes nothing.
+use mathlib.Core.Path.{refl}
 use native.Mathlib.Omega.{arith}
 use Rattle.layout.specs.Answers.{verdictIs}
 use Rattle.layout.proofs.Replies.{told-refused}
@@ -56,18 +57,21 @@ held s =
     let opened = s .before .before .before .open-headers in
     opened-held _ (opened .result) (opened .ensures) (judged .result) (s .enum-told .given .1) (judged .ensures)
 
+rank-sets-requires : tie.Need-rank-sets-requires
+rank-sets-requires c κs = (held (c .before .before .before .before .before) .few, refl)
+
 put-directory-numbers-requires : tie.Need-put-directory-numbers-requires
 put-directory-numbers-requires c κs = search needs
 
 put-names-requires : tie.Need-put-names-requires
 put-names-requires c κs =
-    let accepted = c .before .before .before .before .before .before .before .before .before .before .before .before in
+    let accepted = c .before .before .before .before .before .before .before .before .before .before .before .before .before .before .before .before .before .before in
     let h = held accepted in
     (h .inside, h .few, omega (arith, accepted .before .before .before .before .if2 .left))
 
 put-filenames-requires : tie.Need-put-filenames-requires
 put-filenames-requires c κs =
-    let accepted = c .before .before .before .before .before .before .before .before .before .before .before .before .before .before .before .before in
+    let accepted = c .before .before .before .before .before .before .before .before .before .before .before .before .before .before .before .before .before .before .before .before .before .before in
     let h = held accepted in
     let named = c .before .before .before .put-names .ensures in
     (h .inside, h .few, omega (arith, named .next, named .narrow, same-room named, accepted .before .before .before .before .if2 .left))
@@ -82,8 +86,9 @@ returns-4 : tie.Need-returns-4
 unfolding verdictIs
 returns-4 c =
     let numbers = c .before .before .before .before .before .before .before .before .before .before in
-    let accepted = numbers .before .before .before .before .before .before .before .before .before in
-    all-put _ _ _ (held accepted) (accepted .before .before .before .before .before .if1 .left) (accepted .before .before .before .before .if2 .left) (numbers .put-directory-numbers .ensures) (c .before .before .before .before .before .before .put-names .ensures) (c .before .before .put-filenames .ensures)
+    let ranked = numbers .before .before .before .before .before .before .before .before .before in
+    let accepted = ranked .before .before .before .before .before .before in
+    all-put _ _ _ (held accepted) (ranked .rank-sets .ensures) (accepted .before .before .before .before .before .if1 .left) (accepted .before .before .before .before .if2 .left) (numbers .put-directory-numbers .ensures) (c .before .before .before .before .before .before .put-names .ensures) (c .before .before .put-filenames .ensures)
 
 pub ambrothel-open-directory-spec : {M : Type 1} → statement M
 ambrothel-open-directory-spec =
@@ -100,6 +105,7 @@ ambrothel-open-directory-spec =
     same-length-2
     returns-3
     enum-told
+    rank-sets-requires
     put-directory-numbers-requires
     put-names-requires
     put-filenames-requires
