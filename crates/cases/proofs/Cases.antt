@@ -18,6 +18,7 @@ use Rattle.layout.specs.States.{stateOf, stateFits, attached, stateCount, state
 use Rattle.layout.specs.Rules.{rule1, rule2, rule3, rule4, rule5, sphFits, dsdsFit, rule6, rule7At, rule7, linesOf, rule8At, rule8, rule9At, rule9, rule10At, rule10, dataSets, rule11, setInside, rule12At, rule12, sharesAt, rule13At, rule13, holdsAt, rule14At, rule14, isVariableAt, statesFit, rule15, isFilled, rule16At, rule16, rules1to6, rules7to14, headerRules, stateRules, verdictFrom, verdict}
 use Rattle.layout.specs.Records.{variableLengths, lengths, recordAt, recordLength, recordPart, Span, recordRefusal, recordPlace}
 use Rattle.layout.specs.Fields.{Value, integer, Position, shapeOf, bytesOf, valueAt, recordOf, endsIn, fieldRefusal, fieldIn, fieldReply, quotient, degrees, metres, inLimits, positionAt, pointRefusal, pointIn, pointReply}
+use Rattle.layout.specs.Order.{startAt, before, rank, rankOf, ranksOf}
 use Rattle.layout.specs.Listing.{digitsBefore, decimal, signedDecimal, putBefore, trimmed, lineOf, entryLine, acceptedLines, listingFor, listing}
 use Rattle.layout.specs.Answers.{padded, directoryOf}
 use Rattle.values.specs.Header.{headerOf}
@@ -103,7 +104,7 @@ cases-A-to-L : map (λ k. answer (k .product) (k .ask)) table ≡ map (λ k. k .
 unfolding table answer part byteAt unsignedAt twosComplement signedAt fits valueClasses lineClasses layout valueWidth quoteWidth placeOf widthOf valueOf digits numberOf whole mph dsd spareDsd first some count find sum laidOut headerNumber totSize sphSize numDsd dsdSize numDataSets headersEnd entries dsdsAt dsdAt dsdBytes entryOf entryFrom entriesFrom entryAt directory at isData isReference called nonEmpty nonEmptyAt start extent holds shares kindOf isVariable isStates isFixed allZero inRange setFits numbersFit sphLines ended blanks unquoted quoted value keyword line lineBegins stateOf stateFits attached stateCount stateLengths stateBytes isStatesAt statesEntry stateAt stateIn statesAt statesOf firstBad countOfKind totalOfKind tallyOf ofKind rule1 rule2 rule3 rule4 rule5 sphFits dsdsFit rule6 rule7At rule7 linesOf rule8At rule8 rule9At rule9 rule10At rule10 dataSets rule11 setInside rule12At rule12 sharesAt rule13At rule13 holdsAt rule14At rule14 isVariableAt statesFit rule15 isFilled rule16At rule16 rules1to6 rules7to14 headerRules stateRules verdictFrom verdict variableLengths lengths recordAt recordLength recordPart recordRefusal recordPlace shapeOf bytesOf valueAt recordOf endsIn fieldRefusal fieldIn fieldReply quotient degrees metres inLimits positionAt pointRefusal pointIn pointReply ofInt ofBits div digitsBefore decimal signedDecimal putBefore trimmed lineOf entryLine acceptedLines listingFor listing
 cases-A-to-L = refl
 
--- ---- beyond A to L: states, unequal records, spares, empty sets, SPH lines, the listing
+-- ---- beyond A to L: states, unequal records, spares, empty sets, SPH lines, the listing with ranks
 
 -- a state record: flag, kind, number of DSRs, DSR length
 abbrev stateRecord : ℕ → ℕ → ℕ → ℕ → List ℕ
@@ -128,6 +129,10 @@ abbrev allEmpty : ℕ → List ℕ
 allEmpty sets =
     productOf [] (dsdOf 77 "NADIR" 0 0 0 (bytes "-0000000001") ∷ header dsd (given "DS_TYPE" (65 ∷ []) ∷ given "DS_SIZE" (bytes "-00000000000000000000") ∷ []) ∷ demo 0 0 0 5 ∷ []) sets []
 
+-- sets out of entry order, and an empty set whose offset lies among them
+abbrev emptyAmong : List ℕ
+emptyAmong = productOf [] (demo 2369 1 1 1 ∷ demo 2368 0 0 5 ∷ demo 2367 2 2 1 ∷ demo 2370 3 1 3 ∷ []) 3 (replicate 6 7)
+
 others : List Case
 others =
     case (nadir (stateRecord 0 1 1 3) (stateRecord 0 1 1 2) 2) judge (verdictIs accepted)
@@ -144,8 +149,10 @@ others =
     ∷ case (allEmpty 0) judge (verdictIs accepted)
     ∷ case (allEmpty 1) judge (verdictIs (refused 11 1194 128))  -- -0 is 0
     ∷ case (allEmpty 3) judge (verdictIs (refused 11 1194 128))
-    ∷ case (mixed 1) list (listed (bytes "size 2386\nentry 0 spare\nentry 1 R AUX 0 0 0 0\nentry 2 A NONE 99 0 0 -1\nentry 3 G DEMO 2384 2 1 2\naccepted\n"))
-    ∷ case (oneSet 1527 15) list (listed (bytes "size 1542\nentry 0 G DEMO 1527 15 3 5\naccepted\n"))  -- B
+    ∷ case (mixed 1) list (listed (bytes "size 2386\nentry 0 spare\nentry 1 R AUX 0 0 0 0 128\nentry 2 A NONE 99 0 0 -1 128\nentry 3 G DEMO 2384 2 1 2 0\naccepted\n"))
+    ∷ case (oneSet 1527 15) list (listed (bytes "size 1542\nentry 0 G DEMO 1527 15 3 5 0\naccepted\n"))  -- B
+    ∷ case (twoSets 1817 1807) list (listed (bytes "size 1827\nentry 0 G DEMO 1817 10 1 10 1\nentry 1 G DEMO 1807 10 1 10 0\naccepted\n"))  -- G
+    ∷ case emptyAmong list (listed (bytes "size 2373\nentry 0 G DEMO 2369 1 1 1 1\nentry 1 G DEMO 2368 0 0 5 128\nentry 2 G DEMO 2367 2 2 1 0\nentry 3 G DEMO 2370 3 1 3 2\naccepted\n"))
     ∷ case (oneSet 1527 16) list (listed (bytes "refused 14 1542 128\n"))  -- E
     ∷ case (productOf (bytes "A=\n") [] 0 []) judge (verdictIs (refused 7 1247 128))
     ∷ case (productOf (bytes "A=1\n\n") [] 0 []) judge (verdictIs (refused 7 1251 128))
@@ -153,7 +160,7 @@ others =
     ∷ []
 
 other-cases : map (λ k. answer (k .product) (k .ask)) others ≡ map (λ k. k .want) others
-unfolding others answer part byteAt unsignedAt twosComplement signedAt fits valueClasses lineClasses layout valueWidth quoteWidth placeOf widthOf valueOf digits numberOf whole mph dsd spareDsd first some count find sum laidOut headerNumber totSize sphSize numDsd dsdSize numDataSets headersEnd entries dsdsAt dsdAt dsdBytes entryOf entryFrom entriesFrom entryAt directory at isData isReference called nonEmpty nonEmptyAt start extent holds shares kindOf isVariable isStates isFixed allZero inRange setFits numbersFit sphLines ended blanks unquoted quoted value keyword line lineBegins stateOf stateFits attached stateCount stateLengths stateBytes isStatesAt statesEntry stateAt stateIn statesAt statesOf firstBad countOfKind totalOfKind tallyOf ofKind rule1 rule2 rule3 rule4 rule5 sphFits dsdsFit rule6 rule7At rule7 linesOf rule8At rule8 rule9At rule9 rule10At rule10 dataSets rule11 setInside rule12At rule12 sharesAt rule13At rule13 holdsAt rule14At rule14 isVariableAt statesFit rule15 isFilled rule16At rule16 rules1to6 rules7to14 headerRules stateRules verdictFrom verdict variableLengths lengths recordAt recordLength recordPart recordRefusal recordPlace shapeOf bytesOf valueAt recordOf endsIn fieldRefusal fieldIn fieldReply quotient degrees metres inLimits positionAt pointRefusal pointIn pointReply ofInt ofBits div digitsBefore decimal signedDecimal putBefore trimmed lineOf entryLine acceptedLines listingFor listing
+unfolding others answer startAt before rank rankOf part byteAt unsignedAt twosComplement signedAt fits valueClasses lineClasses layout valueWidth quoteWidth placeOf widthOf valueOf digits numberOf whole mph dsd spareDsd first some count find sum laidOut headerNumber totSize sphSize numDsd dsdSize numDataSets headersEnd entries dsdsAt dsdAt dsdBytes entryOf entryFrom entriesFrom entryAt directory at isData isReference called nonEmpty nonEmptyAt start extent holds shares kindOf isVariable isStates isFixed allZero inRange setFits numbersFit sphLines ended blanks unquoted quoted value keyword line lineBegins stateOf stateFits attached stateCount stateLengths stateBytes isStatesAt statesEntry stateAt stateIn statesAt statesOf firstBad countOfKind totalOfKind tallyOf ofKind rule1 rule2 rule3 rule4 rule5 sphFits dsdsFit rule6 rule7At rule7 linesOf rule8At rule8 rule9At rule9 rule10At rule10 dataSets rule11 setInside rule12At rule12 sharesAt rule13At rule13 holdsAt rule14At rule14 isVariableAt statesFit rule15 isFilled rule16At rule16 rules1to6 rules7to14 headerRules stateRules verdictFrom verdict variableLengths lengths recordAt recordLength recordPart recordRefusal recordPlace shapeOf bytesOf valueAt recordOf endsIn fieldRefusal fieldIn fieldReply quotient degrees metres inLimits positionAt pointRefusal pointIn pointReply ofInt ofBits div digitsBefore decimal signedDecimal putBefore trimmed lineOf entryLine acceptedLines listingFor listing
 other-cases = refl
 
 -- ---- the 34 header values, and a directory
@@ -219,6 +226,7 @@ mixed-directory :
     (directoryOf (directory (mixed 1)) .types ≡ 32 ∷ 82 ∷ 65 ∷ 71 ∷ replicate 124 0)
     × ((directoryOf (directory (mixed 1)) .offsets ≡ mixedOffsets)
     × ((directoryOf (directory (mixed 1)) .«record_sizes» ≡ pos 0 ∷ pos 0 ∷ negsuc 0 ∷ pos 2 ∷ replicate 124 (pos 0))
-    × (take 58 (directoryOf (directory (mixed 1)) .names) ≡ replicate 28 32 ++ (bytes "AUX" ++ (replicate 25 32 ++ bytes "NO")))))
-unfolding directoryOf padded part byteAt unsignedAt twosComplement signedAt fits valueClasses lineClasses layout valueWidth quoteWidth placeOf widthOf valueOf digits numberOf whole mph dsd spareDsd first some count find sum laidOut headerNumber totSize sphSize numDsd dsdSize numDataSets headersEnd entries dsdsAt dsdAt dsdBytes entryOf entryFrom entriesFrom entryAt directory at isData isReference called nonEmpty nonEmptyAt start extent holds shares kindOf isVariable isStates isFixed allZero inRange setFits numbersFit sphLines ended blanks unquoted quoted value keyword line lineBegins stateOf stateFits attached stateCount stateLengths stateBytes isStatesAt statesEntry stateAt stateIn statesAt statesOf firstBad countOfKind totalOfKind tallyOf ofKind rule1 rule2 rule3 rule4 rule5 sphFits dsdsFit rule6 rule7At rule7 linesOf rule8At rule8 rule9At rule9 rule10At rule10 dataSets rule11 setInside rule12At rule12 sharesAt rule13At rule13 holdsAt rule14At rule14 isVariableAt statesFit rule15 isFilled rule16At rule16 rules1to6 rules7to14 headerRules stateRules verdictFrom verdict variableLengths lengths recordAt recordLength recordPart recordRefusal recordPlace shapeOf bytesOf valueAt recordOf endsIn fieldRefusal fieldIn fieldReply quotient degrees metres inLimits positionAt pointRefusal pointIn pointReply ofInt ofBits div digitsBefore decimal signedDecimal putBefore trimmed lineOf entryLine acceptedLines
-mixed-directory = (refl, (refl, (refl, refl)))
+    × ((directoryOf (directory (mixed 1)) .ranks ≡ 128 ∷ 128 ∷ 128 ∷ 0 ∷ replicate 124 0)
+    × (take 58 (directoryOf (directory (mixed 1)) .names) ≡ replicate 28 32 ++ (bytes "AUX" ++ (replicate 25 32 ++ bytes "NO"))))))
+unfolding directoryOf padded startAt before rank rankOf ranksOf part byteAt unsignedAt twosComplement signedAt fits valueClasses lineClasses layout valueWidth quoteWidth placeOf widthOf valueOf digits numberOf whole mph dsd spareDsd first some count find sum laidOut headerNumber totSize sphSize numDsd dsdSize numDataSets headersEnd entries dsdsAt dsdAt dsdBytes entryOf entryFrom entriesFrom entryAt directory at isData isReference called nonEmpty nonEmptyAt start extent holds shares kindOf isVariable isStates isFixed allZero inRange setFits numbersFit sphLines ended blanks unquoted quoted value keyword line lineBegins stateOf stateFits attached stateCount stateLengths stateBytes isStatesAt statesEntry stateAt stateIn statesAt statesOf firstBad countOfKind totalOfKind tallyOf ofKind rule1 rule2 rule3 rule4 rule5 sphFits dsdsFit rule6 rule7At rule7 linesOf rule8At rule8 rule9At rule9 rule10At rule10 dataSets rule11 setInside rule12At rule12 sharesAt rule13At rule13 holdsAt rule14At rule14 isVariableAt statesFit rule15 isFilled rule16At rule16 rules1to6 rules7to14 headerRules stateRules verdictFrom verdict variableLengths lengths recordAt recordLength recordPart recordRefusal recordPlace shapeOf bytesOf valueAt recordOf endsIn fieldRefusal fieldIn fieldReply quotient degrees metres inLimits positionAt pointRefusal pointIn pointReply ofInt ofBits div digitsBefore decimal signedDecimal putBefore trimmed lineOf entryLine acceptedLines
+mixed-directory = (refl, (refl, (refl, (refl, refl))))
