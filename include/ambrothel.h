@@ -32,8 +32,9 @@ extern "C" {
 #endif
 
 /* This boundary's version, 10000 * major + 100 * minor + patch: a new major where an answer's words change their
- * places or it takes more room, or a call its parameters; a new minor where something else is added; a new patch where
- * a rule judges otherwise. (10001: refusal 11 counts no empty sets. 20000: a directory has ranks, 772 words for 644.) */
+ * places or it takes more room, or a call its parameters; a new minor where something else is added; a new patch
+ * where a rule judges otherwise. 10001: refusal 11 counts no empty sets. 20000: a directory has ranks, and takes 772
+ * words for 644. */
 #define AMBROTHEL_VERSION 20000
 
 /* What a call returns. */
@@ -55,8 +56,8 @@ extern "C" {
 /* How much stack a call takes at most, in bytes. */
 #define AMBROTHEL_STACK 65536
 
-/* How many entries a directory has at most; the entry of a refusal that concerns none; and the rank of an entry that has
- * none. */
+/* How many entries a directory has at most; the entry of a refusal that concerns none; and the rank of an entry that
+ * has none. */
 #define AMBROTHEL_MOST_ENTRIES 128
 #define AMBROTHEL_NO_ENTRY 128
 #define AMBROTHEL_NO_RANK 128
@@ -138,9 +139,9 @@ enum {
     AMBROTHEL_DIRECTORY_COUNTS = 388,       /* words[COUNTS + i]: NUM_DSR, how many records */
     AMBROTHEL_DIRECTORY_RECORD_SIZES = 516, /* words[RECORD_SIZES + i]: DSR_SIZE with its sign, -1 for records of
                                                unequal lengths */
-    AMBROTHEL_DIRECTORY_RANKS = 644,        /* words[RANKS + i]: how many non-empty sets start before this one, 0 for the
-                                               first in the file; AMBROTHEL_NO_RANK for an empty set, an R entry and a
-                                               spare; 0 for a place that is not used */
+    AMBROTHEL_DIRECTORY_RANKS = 644,        /* words[RANKS + i]: how many non-empty sets start before this one, 0 for
+                                               the first in the file; AMBROTHEL_NO_RANK for an empty set, an R entry
+                                               and a spare; 0 for a place that is not used */
     AMBROTHEL_DIRECTORY_NAMES = 0,          /* texts[NAMES + NAME_LENGTH * i ..]: DS_NAME, blanks behind */
     AMBROTHEL_DIRECTORY_NAME_LENGTH = 28,
     AMBROTHEL_DIRECTORY_FILENAMES = 3584,   /* texts[FILENAMES + FILENAME_LENGTH * i ..]: FILENAME, blanks behind */
