@@ -17,7 +17,7 @@ use Rattle.layout.specs.Faults.{NonEmpty}
 use Rattle.layout.specs.Order.{fileOrder, rank, rankOf, ranksOf, ranked, byRank}
 use Rattle.layout.specs.Answers.{directoryOf}
 use Rattle.layout.proofs.Laws.{lt-or-le, find-bounds, find-before, find-at}
-use Rattle.layout.proofs.Tests.{nonEmpty-T}
+use Rattle.layout.proofs.Tests.{is-true, is-false, nonEmpty-T}
 use Rattle.layout.proofs.Padded.{held-at}
 use Rattle.layout.proofs.Sound.{Sound, length-map-upto, getD-map-upto, length-directory}
 use Rattle.layout.proofs.Agree.{map-upto-same}
@@ -68,30 +68,23 @@ find-only t n i l h only = go (lt-or-le i (find t 0 n))
 -- ---- what an entry carries
 
 module _ (ds : List Entry) (i : ℕ) where
-  rank-carried : T (nonEmptyAt ds i) → rankOf ds i ≡ rank ds i
+  carried-by : (t : Bool) → nonEmptyAt ds i ≡ t → rankOf ds i ≡ cond t (rank ds i) 128
   unfolding rankOf
-  rank-carried h = go (nonEmptyAt ds i) h
-    where
-      go : (t : Bool) → T t → cond t (rank ds i) 128 ≡ rank ds i
-      go true h = refl
-      go false h = absurd h
+  carried-by t e = ap (λ (u : Bool). cond u (rank ds i) 128) e
+
+  rank-carried : T (nonEmptyAt ds i) → rankOf ds i ≡ rank ds i
+  rank-carried h = carried-by true (is-true (nonEmptyAt ds i) h)
 
   none-carried : (T (nonEmptyAt ds i) → ⊥) → rankOf ds i ≡ 128
-  unfolding rankOf
-  none-carried h = go (nonEmptyAt ds i) h
-    where
-      go : (t : Bool) → (T t → ⊥) → cond t (rank ds i) 128 ≡ 128
-      go true h = absurd (h tt)
-      go false h = refl
+  none-carried h = carried-by false (is-false (nonEmptyAt ds i) h)
 
   -- and so a rank below 128 is a set's
   carried-set : rankOf ds i < 128 → T (nonEmptyAt ds i)
-  unfolding rankOf
-  carried-set h = go (nonEmptyAt ds i) h
+  carried-set h = go (nonEmptyAt ds i) (carried-by (nonEmptyAt ds i) refl)
     where
-      go : (t : Bool) → cond t (rank ds i) 128 < 128 → T t
-      go true h = tt
-      go false h = absurd (omega arith)
+      go : (t : Bool) → rankOf ds i ≡ cond t (rank ds i) 128 → T t
+      go true e = tt
+      go false e = absurd (omega arith)
 
   pub answered : i < length ds → getD (directoryOf ds .ranks) i 0 ≡ rankOf ds i
   unfolding directoryOf ranksOf
