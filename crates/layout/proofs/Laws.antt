@@ -391,6 +391,27 @@ module _ (t : ℕ → Bool) where
       go true h = omega arith
       go false h = omega arith
 
+  -- a count in two parts
+  count-append : (m i n : ℕ) → count t i (m + n) ≡ count t i m + count t (i + m) n
+  unfolding count
+  count-append zero i n = rw (zero-add n, add-zero i) (omega arith)
+  count-append (suc m) i n =
+      rw (suc-add m n, count-append m (suc i) n, add-suc i m, ← suc-add i m, add-assoc (cond (t i) 1 0) (count t (suc i) m) (count t (suc i + m) n))
+
+  pub count-split : (i n : ℕ) → i ≤ n → count t 0 n ≡ count t 0 i + count t i (n - i)
+  count-split i n h = let q : n ≡ i + (n - i) = omega arith in ap (count t 0) q ∙ count-append i 0 (n - i) ∙ rw (zero-add i)
+
+  -- for loops that count what is left
+  pub count-step : (i n : ℕ) → i < n → count t i (n - i) ≡ cond (t i) 1 0 + count t (i + 1) (n - (i + 1))
+  unfolding count
+  count-step i n h = let q : n - i ≡ suc (n - suc i) = omega arith in rw (q, add-one i)
+
+  -- what passes nowhere is not counted
+  pub count-never : (i n : ℕ) → ((k : ℕ) → i ≤ k → k < i + n → t k ≡ false) → count t i n ≡ 0
+  unfolding count
+  count-never i zero h = refl
+  count-never i (suc n) h = rw (h i (omega arith) (omega arith), count-never (suc i) n (λ k l u. h k (omega arith) (omega arith)))
+
 -- ---- what a search finds, by its number
 
 module _ (t : ℕ → Bool) where
