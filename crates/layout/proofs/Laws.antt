@@ -292,6 +292,14 @@ module _ (t : ℕ → Bool) where
       go true e u below = rw e tt
       go false e u below = below (omega arith)
 
+  -- the only number that passes is the one found
+  pub find-only : (n i : ℕ) → i < n → T (t i) → ((j : ℕ) → j < n → T (t j) → j ≡ i) → find t 0 n ≡ i
+  find-only n i l h only = go (lt-or-le i (find t 0 n))
+    where
+      go : (i < find t 0 n) ⊎ (find t 0 n ≤ i) → find t 0 n ≡ i
+      go (inl u) = absurd (subst (λ (v : Bool). T v) (find-before 0 n i (omega arith) u) h)
+      go (inr u) = only (find t 0 n) (omega arith) (find-at 0 n (omega arith))
+
 -- ---- bytes against a layout
 
 -- one layout after another
@@ -332,15 +340,15 @@ laidOut-fits d n e (c ∷ ks) (x ∷ b) p h =
 -- ---- counting by finding
 
 module _ (t : ℕ → Bool) where
+  -- what passes nowhere is not counted
+  pub count-never : (i n : ℕ) → ((k : ℕ) → i ≤ k → k < i + n → t k ≡ false) → count t i n ≡ 0
+  unfolding count
+  count-never i zero h = refl
+  count-never i (suc n) h = rw (h i (omega arith) (omega arith), count-never (suc i) n (λ k l u. h k (omega arith) (omega arith)))
+
   -- none from i on passes: as many as find says
   pub count-none : (i n : ℕ) → find t i n ≡ i + n → count t i n ≡ 0
-  unfolding find count
-  count-none i zero h = refl
-  count-none i (suc n) h = go (t i) h (count-none (suc i) n)
-    where
-      go : (u : Bool) → cond u i (find t (suc i) n) ≡ i + suc n → (find t (suc i) n ≡ suc i + n → count t (suc i) n ≡ 0) → cond u 1 0 + count t (suc i) n ≡ 0
-      go true h below = absurd (omega arith)
-      go false h below = rw (below (omega arith))
+  count-none i n h = count-never i n (λ k l u. find-before t i n k l (omega arith))
 
   -- one passes, and then as many as pass behind it
   pub count-found : (i n : ℕ) → find t i n < i + n → count t i n ≡ suc (count t (suc (find t i n)) (i + n - suc (find t i n)))
@@ -376,11 +384,11 @@ module _ (t : ℕ → Bool) where
       most true e = omega arith
       most false e = omega arith
 
-  pub count-hit : (counted i : ℕ) → counted ≡ count t 0 i → counted ≤ i → t i ≡ true → (counted + 1 ≡ count t 0 (i + 1)) × (counted + 1 ≤ i + 1)
-  count-hit counted i e l h = count-next counted i e l (rw h refl)
-
-  pub count-miss : (counted i : ℕ) → counted ≡ count t 0 i → counted ≤ i → t i ≡ false → (counted ≡ count t 0 (i + 1)) × (counted ≤ i + 1)
-  count-miss counted i e l h = count-next counted i e l (rw h (omega arith))
+  -- the same where a branch counts: where the number passes, and where it does not
+  pub count-turn : (counted i : ℕ) → counted ≡ count t 0 i → counted ≤ i → {r : ℕ} → ((t i ≡ true) × (r ≡ counted + 1)) ⊎ ((t i ≡ false) × (r ≡ counted))
+      → (r ≡ count t 0 (i + 1)) × (r ≤ i + 1)
+  count-turn counted i e l (inl w) = count-next counted i e l (rw (w .0) (w .1))
+  count-turn counted i e l (inr w) = count-next counted i e l (let s = w .1 in rw (w .0) (omega arith))
 
   pub count-most : (i n : ℕ) → count t i n ≤ n
   unfolding count
@@ -405,12 +413,6 @@ module _ (t : ℕ → Bool) where
   pub count-step : (i n : ℕ) → i < n → count t i (n - i) ≡ cond (t i) 1 0 + count t (i + 1) (n - (i + 1))
   unfolding count
   count-step i n h = let q : n - i ≡ suc (n - suc i) = omega arith in rw (q, add-one i)
-
-  -- what passes nowhere is not counted
-  pub count-never : (i n : ℕ) → ((k : ℕ) → i ≤ k → k < i + n → t k ≡ false) → count t i n ≡ 0
-  unfolding count
-  count-never i zero h = refl
-  count-never i (suc n) h = rw (h i (omega arith) (omega arith), count-never (suc i) n (λ k l u. h k (omega arith) (omega arith)))
 
 -- ---- what a search finds, by its number
 

@@ -3,24 +3,24 @@
 -- Assumes nothing.
 use Prim.Native.Nat.{ℕ, zero, suc, _+_, _≤_, _<_}
 use mathlib.Core.Bool.{Bool, true, false, cond}
-use mathlib.Core.Logic.{_⊎_, inl, inr}
-use mathlib.Core.List.{List, [], _∷_, map}
-use mathlib.Core.Path.{_≡_, refl, sym, ap, _∙_, subst}
+use mathlib.Core.Logic.{inl, inr}
+use mathlib.Core.List.{List, [], _∷_, map, map-id}
+use mathlib.Core.Path.{_≡_, refl, sym, ap, _∙_}
 use native.Mathlib.Omega.{arith}
 use native.Mathlib.Nat.{zero-add}
 use lib.Dec.{T, eqb, eqb→eq}
 use lib.ListN.{length, getD}
+use lib.Seq.{ext-getD}
 use borrow.Author.Tests.{eq-eqb}
 use Rattle.layout.specs.Search.{All, Some, find, upto}
 use Rattle.layout.specs.Entries.{Entry, directory, at, nonEmptyAt}
 use Rattle.layout.specs.Faults.{NonEmpty}
 use Rattle.layout.specs.Order.{fileOrder, rank, rankOf, ranksOf, ranked, byRank}
 use Rattle.layout.specs.Answers.{directoryOf}
-use Rattle.layout.proofs.Laws.{lt-or-le, find-bounds, find-before, find-at}
+use Rattle.layout.proofs.Laws.{find-only}
 use Rattle.layout.proofs.Tests.{is-true, is-false, nonEmpty-T}
-use Rattle.layout.proofs.Padded.{held-at}
+use Rattle.layout.proofs.Padded.{getD-map, held-at}
 use Rattle.layout.proofs.Sound.{Sound, length-map-upto, getD-map-upto, length-directory}
-use Rattle.layout.proofs.Agree.{map-upto-same}
 use Rattle.layout.proofs.Whole.{ranks-in-order, in-file-order, only-sets-in-order, sets-few}
 
 -- ---- lists by number
@@ -36,34 +36,10 @@ some-at : {A : Type 0} (P : A → Type 0) (d : A) (xs : List A) → Some P xs �
 some-at P d (x ∷ xs) (inl h) = (0, omega arith, h)
 some-at P d (x ∷ xs) (inr h) = let r = some-at P d xs h in (suc (r .0), omega (arith, r .1), r .2)
 
--- a list whose numbers are counted up from i
-counted-at : (f : ℕ → ℕ) (xs : List ℕ) (i : ℕ) → map f xs ≡ upto i (length xs) → (k : ℕ) → k < length xs → f (getD xs k 0) ≡ i + k
-counted-at f [] i h k l = absurd (omega arith)
-counted-at f (x ∷ xs) i h zero l = ap (λ (r : List ℕ). getD r 0 0) h ∙ (let q : i ≡ i + 0 = omega arith in q)
-counted-at f (x ∷ xs) i h (suc k) l = counted-at f xs (suc i) (ap tail h) k (omega arith) ∙ (let q : suc i + k ≡ i + suc k = omega arith in q)
-  where
-    tail : List ℕ → List ℕ
-    tail [] = []
-    tail (y ∷ ys) = ys
-
--- a list by its numbers
-by-number : {A : Type 0} (d : A) (xs : List A) → map (λ k. getD xs k d) (upto 0 (length xs)) ≡ xs
-by-number d xs = go xs 0 (λ k. getD xs k d) (λ k. ap (λ (j : ℕ). getD xs j d) (zero-add k))
-  where
-    go : (ys : List _) (i : ℕ) (f : ℕ → _) → ((k : ℕ) → f (i + k) ≡ getD ys k d) → map f (upto i (length ys)) ≡ ys
-    go [] i f h = refl
-    go (y ∷ ys) i f h =
-        let q : i ≡ i + 0 = omega arith in
-        let e : f i ≡ y = ap f q ∙ h 0 in
-        rw (e, go ys (suc i) f (λ k. (let r : suc i + k ≡ i + suc k = omega arith in ap f r) ∙ h (suc k)))
-
--- the only number that passes is the one found
-find-only : (t : ℕ → Bool) (n i : ℕ) → i < n → T (t i) → ((j : ℕ) → j < n → T (t j) → j ≡ i) → find t 0 n ≡ i
-find-only t n i l h only = go (lt-or-le i (find t 0 n))
-  where
-    go : (i < find t 0 n) ⊎ (find t 0 n ≤ i) → find t 0 n ≡ i
-    go (inl u) = absurd (subst (λ (v : Bool). T v) (find-before t 0 n i (omega arith) u) h)
-    go (inr u) = only (find t 0 n) (omega arith) (find-at t 0 n (omega arith))
+-- a list whose numbers are counted up from 0
+counted-at : (f : ℕ → ℕ) (xs : List ℕ) → map f xs ≡ upto 0 (length xs) → (k : ℕ) → k < length xs → f (getD xs k 0) ≡ k
+counted-at f xs h k l =
+    sym (getD-map f xs k 0 0 l) ∙ ap (λ (r : List ℕ). getD r k 0) (h ∙ sym (map-id (upto 0 (length xs)))) ∙ getD-map-upto (λ j. j) 0 0 (length xs) k l ∙ zero-add k
 
 -- ---- what an entry carries
 
@@ -112,7 +88,7 @@ module _ (b : List ℕ) (m : Sound b) where
   unfolding nonEmptyAt
   rank-of-set r l =
       let s = is-set r l in
-      answered ds (set r) (s .0) ∙ rank-carried ds (set r) (nonEmpty-T (at ds (set r)) .1 (s .1)) ∙ counted-at (rank ds) (fileOrder ds) 0 (ranks-in-order b m) r l ∙ zero-add r
+      answered ds (set r) (s .0) ∙ rank-carried ds (set r) (nonEmpty-T (at ds (set r)) .1 (s .1)) ∙ counted-at (rank ds) (fileOrder ds) (ranks-in-order b m) r l
 
   -- a non-empty set stands in file order where its rank says
   pub set-of-rank : (i : ℕ) → i < length ds → NonEmpty (at ds i) → (carried i < length (fileOrder ds)) × (set (carried i) ≡ i)
@@ -130,7 +106,10 @@ module _ (b : List ℕ) (m : Sound b) where
   pub by-rank : byRank (directoryOf ds .ranks) (length ds) (length (fileOrder ds)) ≡ fileOrder ds
   unfolding byRank ranked nonEmptyAt
   by-rank =
-      map-upto-same (ranked (directoryOf ds .ranks) (length ds)) set 0 (length (fileOrder ds)) (λ r g l. at-rank r (omega arith)) ∙ by-number 0 (fileOrder ds)
+      let sets = length (fileOrder ds) in
+      let entry = ranked (directoryOf ds .ranks) (length ds) in
+      ext-getD 0 (map entry (upto 0 sets)) (fileOrder ds) (length-map-upto entry 0 sets)
+      (λ r l. let h : r < sets = omega (arith, length-map-upto entry 0 sets) in getD-map-upto entry 0 0 sets r h ∙ ap entry (zero-add r) ∙ at-rank r h)
     where
       at-rank : (r : ℕ) → r < length (fileOrder ds) → find (λ i. eqb (carried i) r) 0 (length ds) ≡ set r
       at-rank r l = find-only (λ i. eqb (carried i) r) (length ds) (set r) (is-set r l .0) (rw (eq-eqb (carried (set r)) r (rank-of-set r l)) tt) only

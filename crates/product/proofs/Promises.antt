@@ -145,8 +145,8 @@ module _ (b : List ℕ) where
       answered : x .directory ≡ directoryOf ds
       answered = listed ∙ rw accepts
 
-      abbrev rankBy : ℕ → ℕ
-      rankBy i = getD (x .directory .ranks) i 0
+      abbrev rankAnswered : ℕ → ℕ
+      rankAnswered i = getD (x .directory .ranks) i 0
 
       -- how many sets there are: NUM_DATA_SETS says it (`sets-counted`)
       abbrev sets : ℕ
@@ -161,19 +161,19 @@ module _ (b : List ℕ) where
       ranks-are-file-order = rw answered (by-rank b (sound b accepts))
 
       -- each of 0, 1 and so on is the rank of a non-empty set
-      pub rank-each : (r : ℕ) → r < sets → (getD setsByRank r 0 < x .directory .entries) × NonEmpty (at ds (getD setsByRank r 0)) × (rankBy (getD setsByRank r 0) ≡ r)
+      pub rank-each : (r : ℕ) → r < sets → (getD setsByRank r 0 < x .directory .entries) × NonEmpty (at ds (getD setsByRank r 0)) × (rankAnswered (getD setsByRank r 0) ≡ r)
       unfolding directoryOf
       rank-each r l =
           let set = is-set b (sound b accepts) r l in
           rw (ranks-are-file-order, answered) (set .0, set .1, rank-of-set b (sound b accepts) r l)
 
       -- and of that one alone: a non-empty set is the one of its rank
-      pub rank-once : (i : ℕ) → i < x .directory .entries → NonEmpty (at ds i) → (rankBy i < sets) × (getD setsByRank (rankBy i) 0 ≡ i)
+      pub rank-once : (i : ℕ) → i < x .directory .entries → NonEmpty (at ds i) → (rankAnswered i < sets) × (getD setsByRank (rankAnswered i) 0 ≡ i)
       unfolding directoryOf
       rank-once i l h = rw (ranks-are-file-order, answered) (set-of-rank b (sound b accepts) i (rw answered at l) h)
 
       -- every other entry has 128
-      pub rank-none : (i : ℕ) → i < x .directory .entries → (NonEmpty (at ds i) → ⊥) → rankBy i ≡ 128
+      pub rank-none : (i : ℕ) → i < x .directory .entries → (NonEmpty (at ds i) → ⊥) → rankAnswered i ≡ 128
       unfolding directoryOf
       rank-none i l h = rw answered (no-rank b (sound b accepts) i (rw answered at l) h)
 
