@@ -6,42 +6,27 @@ ghost use lib.IntN.{pos};
 ghost use lib.ListN.{length};
 ghost use Rattle.layout.specs.Bytes.{part};
 ghost use Rattle.layout.specs.Lines.{sizeOfDsd};
-ghost use Rattle.layout.specs.Entries.{entryOf, called, isData, nonEmpty, allZero, inRange, isFixed, isVariable, setFits, numbersFit, atLeast};
+ghost use Rattle.layout.specs.Entries.{entryOf, isData, nonEmpty, allZero, inRange, isFixed, isVariable, setFits, numbersFit, atLeast};
 ghost use Rattle.dsd.specs.Held.{nameRole, numberFrom, heldOf, viewOf, spareBytes, SpareByFirst, Read, overPlace, roleOf};
-
-// The 28 bytes from `start` on are this name, padded with blanks.
-fn is_called(p: &[u8], start: usize, name: &[u8]) -> bool
-    requires { ⌜ (start + 28 ≤ length (now p)) × (length (now name) ≤ 28) ⌝ }
-    ensures { λ r. ⌜ r ≡ called (part (now (p .entry)) start 28) (now (name .entry)) ⌝ }
-{
-    let mut i = 0;
-    while i < name.len() {
-        if p[start + i] != name[i] {
-            return false;
-        }
-        i += 1;
-    }
-    text::first_not_blank(p, start + i, start + 28) == start + 28
-}
 
 // What a set may be whose name is the 28 bytes from `start` on: of the kinds 1 to 4 of source 003's level 1b name table, or the states, 5; else 0.
 pub fn role_of_name(p: &[u8], start: usize) -> u8
     requires { ⌜ start + 28 ≤ length (now p) ⌝ }
     ensures { λ r. ⌜ r ≡ nameRole (part (now (p .entry)) start 28) ⌝ }
 {
-    if is_called(p, start, b"NADIR") {
+    if text::is_called(p, start, b"NADIR") {
         return 1;
     }
-    if is_called(p, start, b"LIMB") {
+    if text::is_called(p, start, b"LIMB") {
         return 2;
     }
-    if is_called(p, start, b"OCCULTATION") {
+    if text::is_called(p, start, b"OCCULTATION") {
         return 3;
     }
-    if is_called(p, start, b"MONITORING") {
+    if text::is_called(p, start, b"MONITORING") {
         return 4;
     }
-    if is_called(p, start, b"STATES") {
+    if text::is_called(p, start, b"STATES") {
         return 5;
     }
     0

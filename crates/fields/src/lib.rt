@@ -6,8 +6,8 @@ ghost use lib.IntN.{pos};
 ghost use lib.ListN.{length};
 ghost use Rattle.layout.specs.Bytes.{unsignedAt, signedAt};
 ghost use Rattle.layout.specs.Answer.{need, refusal, is};
-ghost use Rattle.layout.specs.Fields.{shapeOf, bytesOf, float, longFloat, mjd, valueAt, fieldIn, endsIn, inLimits, positionAt, pointIn};
-ghost use Rattle.layout.specs.Answers.{verdictIs, fieldIs, fieldAnswerIs, pointAnswerIs};
+ghost use Rattle.layout.specs.Fields.{shapeOf, bytesOf, float, longFloat, valueAt, fieldIn, endsIn, inLimits, positionAt, pointIn};
+ghost use Rattle.layout.specs.Answers.{verdictIs, fieldIs, fieldAnswerIs, pointAnswerIs, timeAt};
 use layout::Field;
 use layout::FieldAnswer;
 use layout::Point;
@@ -75,18 +75,18 @@ fn double_at(bytes: &[u8], offset: usize) -> Field
     }
 }
 
-fn time_at(bytes: &[u8], offset: usize) -> Field
+pub fn time_at(bytes: &[u8], offset: usize) -> Time
     requires { ⌜ offset + 12 ≤ length (now bytes) ⌝ }
-    ensures { λ r. ⌜ fieldIs r ≡ valueAt (now (bytes .entry)) offset mjd ⌝ }
+    ensures { λ r. ⌜ r ≡ timeAt (now (bytes .entry)) offset ⌝ }
 {
     let days = octets::signed(bytes, offset, 4);
     let seconds = octets::unsigned(bytes, offset + 4, 4);
     let microseconds = octets::unsigned(bytes, offset + 8, 4);
-    Field::Time(Time {
+    Time {
         days: days as i32,
         seconds: seconds as u32,
         microseconds: microseconds as u32,
-    })
+    }
 }
 
 // The value of a kind whose bytes are all there.
@@ -99,7 +99,7 @@ fn value_at(bytes: &[u8], offset: usize, kind: usize, width: usize) -> Field
         2 | 4 | 6 => Field::Whole(unsigned_at(bytes, offset, width)),
         7 => single_at(bytes, offset),
         8 => double_at(bytes, offset),
-        _ => time_at(bytes, offset),
+        _ => Field::Time(time_at(bytes, offset)),
     }
 }
 

@@ -1,5 +1,6 @@
 pub mod Starts
 pub mod Laws
+pub mod Only
 pub mod Replies
 pub mod Types
 pub mod Widths
@@ -11,6 +12,7 @@ pub mod Exactly
 pub mod Chain
 pub mod Sound
 pub mod Padded
+pub mod Names
 pub mod Whole
 pub mod Agree
 pub mod Ranks

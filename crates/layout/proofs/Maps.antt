@@ -31,7 +31,7 @@ one-verdict (verdict-cases.Refused r) verdict-cases.Accepted h = cc
 one-verdict (verdict-cases.Refused r) (verdict-cases.Refused s) h = ap verdict-cases.Refused (same-refusal r s (cc) (cc) (cc))
 
 -- a value or a refusal, whichever way it is held
-refusals : {A : Type 0} (r s : Refusal) → _≡_ {A = Reply A} (refusal (r .number) (r .place) (r .entry)) (refusal (s .number) (s .place) (s .entry)) → r ≡ s
+pub refusals : {A : Type 0} (r s : Refusal) → _≡_ {A = Reply A} (refusal (r .number) (r .place) (r .entry)) (refusal (s .number) (s .place) (s .entry)) → r ≡ s
 refusals r s h = same-refusal r s (cc) (cc) (cc)
 
 pub one-place : (v w : Place) → placeIs v ≡ placeIs w → v ≡ w

@@ -111,13 +111,14 @@ pub record Sound (b : List ℕ) : Type 0 where
 
 -- ---- entries without records
 
-no-magnitude : (n : Number) → whole n ≡ pos 0 → n .magnitude ≡ 0
+-- a number that is not negative is its magnitude
+pub magnitude-is : (n : Number) (m : ℕ) → whole n ≡ pos m → n .magnitude ≡ m
 unfolding whole
-no-magnitude n h = go (n .minus) (n .magnitude) h
+magnitude-is n m h = go (n .minus) (n .magnitude) h
   where
-    go : (m : Bool) (k : ℕ) → cond m (negℤ (pos k)) (pos k) ≡ pos 0 → k ≡ 0
-    go true zero h = refl
-    go true (suc k) h = absurd (pos-ne-negsuc 0 k (sym h))
+    go : (s : Bool) (k : ℕ) → cond s (negℤ (pos k)) (pos k) ≡ pos m → k ≡ m
+    go true zero h = cc
+    go true (suc k) h = absurd (pos-ne-negsuc m k (sym h))
     go false k h = cc
 
 -- a number from 0 to m has such a magnitude
@@ -160,8 +161,8 @@ module _ (e : Entry) (fit : NumbersFit e) (typed : Typed e) (empty : nonEmpty e 
       go (inr s) d x = s .1 .0
       go (inl m) true x =
           let d = data-T e .0 (rw x tt) in
-          no-magnitude (e .count) (fit .1 d .1 .0 (not-above (whole (e .size)) (fit .1 d .0 .1 .0) (rw x at empty)))
-      go (inl m) false x = no-magnitude (e .count) (fit .0 (is-reference e m x) .1 .1 .0)
+          magnitude-is (e .count) 0 (fit .1 d .1 .0 (not-above (whole (e .size)) (fit .1 d .0 .1 .0) (rw x at empty)))
+      go (inl m) false x = magnitude-is (e .count) 0 (fit .0 (is-reference e m x) .1 .1 .0)
 
   not-variable : isVariable e ≡ false
   unfolding nonEmpty

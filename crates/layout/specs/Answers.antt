@@ -1,9 +1,10 @@
 -- The answers of `src/` as document 01 has them: for each case of an enum its number and values, and what the structs hold.
 -- Assumes nothing.
-use Prim.Native.Nat.{ℕ, _-_}
+use Prim.Native.Nat.{ℕ, _+_, _*_, _-_}
 use mathlib.Core.List.{List, _++_, map}
 use lib.IntN.{ℤ, pos}
 use lib.ListN.{length, replicate}
+use Rattle.layout.specs.Bytes.{part, unsignedAt, signedAt}
 use Rattle.layout.specs.Text.{whole}
 use Rattle.layout.specs.Answer.{Answer, accepted, refused, Reply, refusal, is}
 use Rattle.layout.specs.Search.{join}
@@ -48,6 +49,12 @@ unfoldable pub pointAnswerIs : PointAnswer → Reply Position
 pointAnswerIs (point-answers.Refused r) = refusal (r .number) (r .place) (r .entry)
 pointAnswerIs (point-answers.At p) = is (record { latitude = p .latitude; longitude = p .longitude; altitude = p .altitude })
 
+-- ---- a time
+
+-- mjd: days sl, seconds ul, microseconds ul
+unfoldable pub timeAt : List ℕ → ℕ → Time
+timeAt r off = record { days = signedAt r off 4; seconds = unsignedAt r (off + 4) 4; microseconds = unsignedAt r (off + 8) 4 }
+
 -- ---- the directory, up to 128 entries held together, unused places zero
 
 -- a list, and zeros up to so many places
@@ -82,6 +89,10 @@ directoryOf ds =
       «record_sizes» = padded 128 (pos 0) (map recordSizeOf ds);
       ranks = padded 128 0 (ranksOf ds);
     }
+
+-- the name of entry i, of 28 bytes, among the names of a directory
+unfoldable pub nameAt : List ℕ → ℕ → List ℕ
+nameAt names i = part names (28 * i) 28
 
 abbrev pub noDirectory : Directory
 noDirectory =

@@ -5,6 +5,7 @@ use Prim.Native.Nat.{ℕ, zero, suc, _+_}
 use mathlib.Core.Bool.{Bool, false, cond, _||_}
 use mathlib.Core.List.{List, [], _∷_, _++_}
 use mathlib.Core.Logic.{_⊎_}
+use lib.Dec.{eqb}
 use Rattle.layout.specs.Answer.{Answer, accepted, refused, need, _orElse_}
 use Rattle.layout.specs.Text.{Class, fits}
 
@@ -27,6 +28,10 @@ count t i (suc n) = cond (t i) 1 0 + count t (suc i) n
 unfoldable pub find : (ℕ → Bool) → ℕ → ℕ → ℕ
 find t i zero = i
 find t i (suc n) = let r = find t (suc i) n in cond (t i) i r
+
+-- the only one of the n numbers from 0 on that passes, or n where none or several do
+unfoldable pub only : (ℕ → Bool) → ℕ → ℕ
+only t n = cond (eqb (count t 0 n) 1) (find t 0 n) n
 
 -- each of a list is so; one of it is
 module _ {A : Type 0} where

@@ -8,8 +8,9 @@ use lib.Seq.{append-snoc}
 use borrow.Author.Tests.{eq-eqb, ne-eqb}
 use Rattle.layout.specs.Bytes.{bytes}
 use Rattle.layout.specs.Listing.{decimal, signedDecimal, trimmed, lineOf}
+use Rattle.layout.specs.Answers.{nameAt}
 use Rattle.listing_text.specs.declared.Listed.{Listed}
-use Rattle.listing_text.specs.EntryLine.{nameAt, entryNumbers, entryWords, entryText}
+use Rattle.listing_text.specs.EntryLine.{entryNumbers, entryWords, entryText}
 
 -- what is put for a word and the byte behind it
 abbrev pub word : List ℕ → List ℕ

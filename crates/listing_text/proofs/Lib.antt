@@ -1,6 +1,5 @@
 pub mod Names
 pub mod EntryLine
 pub mod Lines
-pub mod Held
 pub mod Same
 pub mod Whole

@@ -7,8 +7,8 @@ use native.Mathlib.Omega.{arith}
 use lib.ListN.{length, take, drop, length-take, length-append}
 use Rattle.layout.specs.Bytes.{part}
 use Rattle.layout.specs.Listing.{trimmed}
+use Rattle.layout.specs.Answers.{nameAt}
 use Rattle.writing.proofs.Puts.{lent-part}
-use Rattle.listing_text.specs.EntryLine.{nameAt}
 
 module _ (names : List ℕ) (entry kept : ℕ) (few : kept ≤ 28) (is : trimmed (part names (28 * entry) 28) ≡ part names (28 * entry) kept) where
   pub name-lent : take (28 * entry + kept - 28 * entry) (drop (28 * entry) names) ++ 32 ∷ [] ≡ trimmed (nameAt names entry) ++ 32 ∷ []

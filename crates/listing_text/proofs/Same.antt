@@ -22,7 +22,8 @@ use Rattle.layout.specs.Rules.{verdict}
 use Rattle.layout.specs.Order.{rankOf}
 use Rattle.layout.specs.Listing.{decimal, signedDecimal, trimmed, lineOf, entryLine, acceptedLines, listingFor, listing}
 use Rattle.layout.specs.Answers.{padded, typeOf, nameOf, countOf, recordSizeOf, directoryOf, directoryFor, noDirectory}
-use Rattle.layout.proofs.Padded.{getD-map, padded-at}
+use Rattle.layout.proofs.Padded.{padded-at}
+use Rattle.layout.proofs.Names.{name-same, name-width}
 use Rattle.layout.proofs.Types.{Typed}
 use Rattle.layout.specs.Faults.{NumbersFit}
 use Rattle.layout.proofs.Tests.{data-T}
@@ -30,9 +31,8 @@ use Rattle.layout.proofs.Sound.{Sound, sound, length-directory, at-directory, e
 use Rattle.layout.proofs.Agree.{map-upto-same}
 use Rattle.layout.proofs.Ranks.{answered}
 use Rattle.listing_text.specs.declared.Listed.{Listed}
-use Rattle.listing_text.specs.EntryLine.{nameAt, entryNumbers, entryWords, entryText}
+use Rattle.listing_text.specs.EntryLine.{entryNumbers, entryWords, entryText}
 use Rattle.listing_text.specs.Listing.{listedOf, entryTextAt, entryTexts, acceptedText, refusalText, listingOf, longerText}
-use Rattle.listing_text.proofs.Held.{text-at}
 
 -- ---- numbers
 
@@ -67,30 +67,9 @@ unsigned e typed fit named = go typed (isData e) refl
         let r = fit .0 (eqb→eq (e .type) 82 (last-of-four (eqb (e .type) 77) (eqb (e .type) 65) (eqb (e .type) 71) (eqb (e .type) 82) m x)) in
         (is-zero (e .offset) (r .0), (is-zero (e .size) (r .1 .0), is-zero (e .count) (r .1 .1 .0)))
 
--- ---- names
-
-module _ (b : List ℕ) (good : Sound b) where
-  dsd-whole : (i : ℕ) → i < entries b → length (dsdBytes b i) ≡ 280
-  unfolding dsdBytes part dsdAt dsdsAt headersEnd
-  dsd-whole i h = length-take-le 280 (drop (dsdAt b i) b) (omega (arith, good .headed .headers, good .headed .dsds, length-drop (dsdAt b i) b))
-
-  name-width : (i : ℕ) → i < length (directory b) → length (at (directory b) i .name) ≡ 28
-  unfolding entryOf valueOf placeOf widthOf dsd lineClasses valueClasses quoteWidth valueWidth part
-  name-width i l =
-      let m : i < entries b = omega (arith, length-directory b) in
-      rw (at-directory b i m, entry-at b i) (length-take-le 28 (drop 9 (dsdBytes b i)) (omega (arith, dsd-whole i m, length-drop 9 (dsdBytes b i))))
-
 -- ---- lines
 
 module _ (ds : List Entry) (i : ℕ) (l : i < length ds) (wide : (k : ℕ) → k < length ds → length (at ds k .name) ≡ 28) where
-  name-same : nameAt (directoryOf ds .names) i ≡ at ds i .name
-  unfolding nameAt part directoryOf padded at
-  name-same =
-      let none = entryOf (replicate 280 32) in
-      text-at (map nameOf ds) 28 i (replicate (3584 - length (join (map nameOf ds))) 0) (omega (arith, length-map ds nameOf))
-      (λ k h. let m : k < length ds = omega (arith, length-map ds nameOf) in ap length (getD-map nameOf ds k [] none m) ∙ wide k m)
-      ∙ getD-map nameOf ds i [] none l
-
   abbrev listed : Entry → Listed
   listed e = record { number = i; «ds_type» = e .type; offset = start e; size = extent e; count = countOf e; «record_size» = recordSizeOf e; rank = rankOf ds i }
 
@@ -122,7 +101,7 @@ module _ (ds : List Entry) (i : ℕ) (l : i < length ds) (wide : (k : ℕ) → k
       go true x = refl
       go false x =
           let u = unsigned (at ds i) typed fit (eqb-false (at ds i .type) 32 x) in
-          rw (name-same, u .0, u .1 .0, u .1 .1)
+          rw (name-same ds i l wide, u .0, u .1 .0, u .1 .1)
 
 -- ---- listings
 

@@ -1,16 +1,13 @@
 -- An entry's line of the listing, from what is listed of it and the names of the directory.
 -- Assumes nothing.
-use Prim.Native.Nat.{ℕ, _*_}
+use Prim.Native.Nat.{ℕ}
 use mathlib.Core.Bool.{cond}
 use mathlib.Core.List.{List, [], _∷_}
 use lib.Dec.{eqb}
-use Rattle.layout.specs.Bytes.{bytes, part}
+use Rattle.layout.specs.Bytes.{bytes}
 use Rattle.layout.specs.Listing.{decimal, signedDecimal, trimmed, lineOf}
+use Rattle.layout.specs.Answers.{nameAt}
 use Rattle.listing_text.specs.declared.Listed.{Listed}
-
--- the name of entry i, 28 bytes an entry
-unfoldable pub nameAt : List ℕ → ℕ → List ℕ
-nameAt names i = part names (28 * i) 28
 
 -- offset, size, records, record size, rank
 unfoldable pub entryNumbers : Listed → List (List ℕ)

@@ -12,9 +12,9 @@ ghost use mathlib.Core.List.{_∷_, _++_, []};
 ghost use Prim.Native.Nat.{_+_, _*_, _≤_, _<_};
 ghost use lib.ListN.{length};
 ghost use Rattle.layout.specs.Listing.{listing, trimmed, lineOf};
-ghost use Rattle.layout.specs.Answers.{verdictIs};
+ghost use Rattle.layout.specs.Answers.{verdictIs, nameAt};
 ghost use Rattle.writing.specs.Put.{Put, Written};
-ghost use Rattle.listing_text.specs.EntryLine.{nameAt, entryNumbers, entryWords, entryText};
+ghost use Rattle.listing_text.specs.EntryLine.{entryNumbers, entryWords, entryText};
 ghost use Rattle.listing_text.specs.Listing.{entryTexts, refusalText, acceptedText, listingOf, longerText};
 
 // What a line says of one entry, but for its name.

@@ -1,6 +1,6 @@
 // Numbers over several bytes, most significant first, with a sign or without; and the IEEE value of a bit pattern (document 01, "Fields and points").
 ghost use mathlib.Core.Path.{_≡_};
-ghost use Prim.Native.Nat.{_+_, _*_, _^_, _≤_, _<_};
+ghost use Prim.Native.Nat.{_+_, _*_, _-_, _^_, _≤_, _<_};
 ghost use lib.ListN.{length};
 ghost use lib.Signed.{mag};
 ghost use lib.Ieee.{binary32, binary64, ofBits};
@@ -40,10 +40,10 @@ fn twos_complement(v: u64, half: u64) -> i64
     }
 }
 
-// The same bytes with a sign. It fits 32 bits, so that a caller's cast to i32 keeps it.
+// The same bytes with a sign. It fits as many bits as they have, so that a caller's cast to i32 or i8 keeps it.
 pub fn signed(p: &[u8], at: usize, width: usize) -> i64
     requires { ⌜ (1 ≤ width) × (width ≤ 4) × (at + width ≤ length (now p)) ⌝ }
-    ensures { λ r. ⌜ (r ≡ signedAt (now (p .entry)) at width) × (mag r < 2 ^ 31) ⌝ }
+    ensures { λ r. ⌜ (r ≡ signedAt (now (p .entry)) at width) × (mag r < 2 ^ (8 * width - 1)) ⌝ }
 {
     let half: u64 = 1 << (8 * width - 1);
     twos_complement(unsigned(p, at, width), half)

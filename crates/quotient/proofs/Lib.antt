@@ -1,5 +1,5 @@
 -- How close the quotients are, over whole numbers. Assumes nothing.
 pub mod Close
 mod Near
-mod Quotient
+pub mod Quotient
 pub mod Theorems

@@ -10,12 +10,13 @@ use lib.Dec.{leb, eqb}
 use lib.ListN.{length, getD}
 use borrow.Author.Tests.{le-leb, lt-leb}
 use Rattle.layout.specs.Answer.{need, where′}
-use Rattle.layout.specs.Search.{some, count}
+use Rattle.layout.specs.Search.{some, count, only}
 use Rattle.layout.specs.Entries.{Entry, at, start, extent, kindOf, isVariable, isStates}
 use Rattle.layout.specs.States.{isStatesAt, statesEntry, ofKind}
 use Rattle.layout.specs.Rules.{isVariableAt, isFilled, rule16At, rule16}
 use Rattle.layout.specs.Answers.{countOf}
-use Rattle.layout.proofs.Laws.{some-same, count-same, find-same, first-found, not-not}
+use Rattle.layout.proofs.Laws.{some-same, first-found, not-not}
+use Rattle.layout.proofs.Only.{only-same}
 use Rattle.layout.proofs.Tests.{variable-T, variable-kind}
 use Rattle.layout.proofs.Padded.{padded-at}
 use Rattle.dsd.specs.Held.{roleOf}
@@ -99,12 +100,8 @@ module _ (ds : List Entry) where
 
   -- the only entry that describes states
   pub only-is : onlyStates (setsOf ds .roles) (length ds) ≡ cond (eqb (count (isStatesAt ds) 0 (length ds)) 1) (statesEntry ds) (length ds)
-  unfolding onlyStates statesEntry
-  only-is =
-      rw (
-        count-same (roleWithin (setsOf ds .roles) 5 5) (isStatesAt ds) 0 (length ds) (λ k l u. is-states ds k (omega arith)),
-        find-same (roleWithin (setsOf ds .roles) 5 5) (isStatesAt ds) 0 (length ds) (λ k l u. is-states ds k (omega arith)),
-      )
+  unfolding onlyStates statesEntry only
+  only-is = only-same (roleWithin (setsOf ds .roles) 5 5) (isStatesAt ds) (length ds) (λ k l. is-states ds k l)
 
 -- ---- rule 16, by any tally
 

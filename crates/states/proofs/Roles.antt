@@ -18,42 +18,6 @@ use Rattle.states.specs.declared.Tally.{Tally}
 use Rattle.states.specs.Roles.{roleWithin, onlyStates, unfilled, unfilledAt, rule16By, describedBy}
 use Rattle.states.proofs.Sums.{within-in, within-below, within-above}
 
--- ---- the only entry that describes states
-
-two-or-more : (n : ℕ) → eqb (suc (suc n)) 1 ≡ false
-two-or-more n = ne-eqb (suc (suc n)) 1 (λ e. omega arith)
-
-module _ (roles : List ℕ) (n : ℕ) where
-  abbrev states : ℕ → Bool
-  states = roleWithin roles 5 5
-
-  -- there is none
-  pub only-missing : find states 0 n ≡ n → n ≡ onlyStates roles n
-  unfolding onlyStates
-  only-missing h = rw (count-none states 0 n (h ∙ sym (zero-add n)))
-
-  module _ (i : ℕ) (here : i ≡ find states 0 n) (there : i ≡ n → ⊥) where
-    pub first-inside : i < n
-    first-inside = omega (arith, here, there, find-bounds states 0 n .1)
-
-    behind : count states 0 n ≡ suc (count states (suc i) (n - suc i))
-    behind = let l = first-inside in count-found states 0 n (omega (arith, here)) ∙ rw (← here, zero-add n)
-
-    -- the first is the only one
-    pub only-one : find states (i + 1) (n - (i + 1)) ≡ n → i ≡ onlyStates roles n
-    unfolding onlyStates
-    only-one h =
-        let q : n ≡ suc i + (n - suc i) = omega (arith, first-inside) in
-        rw (behind, count-none states (suc i) (n - suc i) ((rw add-one at h) ∙ q)) here
-
-    -- there is a second
-    pub only-doubled : (find states (i + 1) (n - (i + 1)) ≡ n → ⊥) → n ≡ onlyStates roles n
-    unfolding onlyStates
-    only-doubled h =
-        let g : find states (suc i) (n - suc i) ≡ n → ⊥ = rw add-one at h in
-        let k : find states (suc i) (n - suc i) < suc i + (n - suc i) = omega (arith, first-inside, find-bounds states (suc i) (n - suc i) .1, g) in
-        rw (behind, count-found states (suc i) (n - suc i) k, two-or-more (count states (suc (find states (suc i) (n - suc i))) (suc i + (n - suc i) - suc (find states (suc i) (n - suc i)))))
-
 pub above : (n : ℕ) → (n ≡ 0 → ⊥) → 0 < n
 above n h = omega arith
 

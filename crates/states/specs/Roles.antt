@@ -1,13 +1,13 @@
 -- Rules 15 and 16 by the arrays of a directory.
 -- Assumes nothing.
 use Prim.Native.Nat.{ℕ, _+_, _*_, _-_}
-use mathlib.Core.Bool.{Bool, cond, _&&_, not}
+use mathlib.Core.Bool.{Bool, _&&_, not}
 use mathlib.Core.List.{List}
 use lib.Dec.{leb, ltb, eqb}
 use lib.ListN.{getD}
 use Rattle.layout.specs.Bytes.{within}
 use Rattle.layout.specs.Answer.{Answer, need, where′, _orElse_}
-use Rattle.layout.specs.Search.{some, count, find}
+use Rattle.layout.specs.Search.{some, find, only}
 use Rattle.directory.specs.declared.Sets.{Sets}
 use Rattle.states.specs.declared.Tally.{Tally}
 
@@ -21,7 +21,7 @@ hasVariable roles n = some (roleWithin roles 1 4) 0 n
 
 -- the entry that describes the states, if exactly one of n entries does, else n
 unfoldable pub onlyStates : List ℕ → ℕ → ℕ
-onlyStates roles n = cond (eqb (count (roleWithin roles 5 5) 0 n) 1) (find (roleWithin roles 5 5) 0 n) n
+onlyStates roles n = only (roleWithin roles 5 5) n
 
 -- a variable set of this role, whose records, of which a tally has these counts and totals, do not fill it
 unfoldable pub unfilled : ℕ → ℕ → ℕ → List ℕ → List ℕ → Bool

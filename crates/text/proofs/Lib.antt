@@ -1,5 +1,6 @@
 pub mod Tests
 pub mod Runs
 pub mod Parts
+mod Names
 mod Numbers
 pub mod Laws

@@ -1,4 +1,4 @@
-// Header text (document 01, "Header text"): runs of blanks, plain bytes and digits, and decimal numbers, read at a place of the lent bytes.
+// Header text (document 01, "Header text"): runs of blanks, plain bytes and digits, names, and decimal numbers, read at a place of the lent bytes.
 ghost use mathlib.Core.Path.{_≡_};
 ghost use Prim.Native.Nat.{_+_, _*_, _-_, _^_, _<_, _≤_};
 ghost use mathlib.Core.Bool.{not};
@@ -6,6 +6,7 @@ ghost use lib.Dec.{T};
 ghost use lib.ListN.{length};
 ghost use Rattle.layout.specs.Bytes.{part};
 ghost use Rattle.layout.specs.Search.{some, find};
+ghost use Rattle.layout.specs.Entries.{called};
 ghost use Rattle.layout.specs.Text.{exactly, plain, digit, fits, digits};
 ghost use Rattle.text.specs.Blanks.{notBlank};
 ghost use Rattle.text.specs.Runs.{fails, Skipped};
@@ -60,6 +61,21 @@ pub fn first_not_blank(p: &[u8], from: usize, to: usize) -> usize
         i += 1;
     }
     to
+}
+
+// The 28 bytes from `start` on are this name, padded with blanks.
+pub fn is_called(p: &[u8], start: usize, name: &[u8]) -> bool
+    requires { ⌜ (start + 28 ≤ length (now p)) × (length (now name) ≤ 28) ⌝ }
+    ensures { λ r. ⌜ r ≡ called (part (now (p .entry)) start 28) (now (name .entry)) ⌝ }
+{
+    let mut i = 0;
+    while i < name.len() {
+        if p[start + i] != name[i] {
+            return false;
+        }
+        i += 1;
+    }
+    first_not_blank(p, start + i, start + 28) == start + 28
 }
 
 // A byte of q or c: 32 to 126, never 34.

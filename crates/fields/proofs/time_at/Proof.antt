@@ -2,8 +2,7 @@
 use mathlib.Core.Path.{_∙_}
 use borrow.Author.Needs.{needs, sfits-of}
 use mir.Facts.{toZ-ofZ}
-use Rattle.layout.specs.Fields.{time, valueAt}
-use Rattle.layout.specs.Answers.{fieldIs}
+use Rattle.layout.specs.Answers.{timeAt}
 use Rattle.fields.proofs.time_at.Statement.{statement}
 use Rattle.fields.proofs.time_at.Tie as tie
 
@@ -32,11 +31,11 @@ cast-t9 : tie.Need-cast-t9
 cast-t9 c = search needs
 
 returns : tie.Need-returns
-unfolding valueAt fieldIs
+unfolding timeAt
 returns c =
     let s = c .before .before .signed in
     let d = toZ-ofZ (cast-t7 c) ∙ toZ-ofZ (sfits-of (s .ok)) ∙ s .ensures .0 in
-    λ j. time (d j) (c .before .unsigned .ensures .0 j) (c .unsigned2 .ensures .0 j)
+    λ j. record { days = d j; seconds = c .before .unsigned .ensures .0 j; microseconds = c .unsigned2 .ensures .0 j }
 
 pub time-at-spec : {M : Type 1} → statement M
 time-at-spec =

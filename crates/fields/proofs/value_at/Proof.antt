@@ -3,8 +3,9 @@ use mathlib.Core.Path.{ap, _∙_}
 use native.Mathlib.Omega.{arith}
 use borrow.Author.Needs.{sfits-of}
 use mir.Facts.{toZ-ofZ}
-use Rattle.layout.specs.Fields.{integer, bytesOf, valueAt}
-use Rattle.layout.specs.Answers.{fieldIs}
+use Rattle.layout.specs.Fields.{integer, time, bytesOf, valueAt}
+use Rattle.layout.specs.Answers.{fieldIs, timeAt}
+use Rattle.layout.specs.declared.Time.{Time}
 use Rattle.fields.proofs.Shapes.{signed-kind, unsigned-kind, float-kind, longFloat-kind, time-kind}
 use Rattle.fields.proofs.value_at.Statement.{statement}
 use Rattle.fields.proofs.value_at.Tie as tie
@@ -64,10 +65,11 @@ returns-4 : tie.Need-returns-4
 returns-4 c = let s = c .before .before .before in rw (longFloat-kind (s .args .kind) (c .before .match .keys4)) (c .double-at .ensures)
 
 returns-5 : tie.Need-returns-5
+unfolding valueAt fieldIs timeAt
 returns-5 c =
     let s = c .before .before .before in
     let n = c .before .match .rest in
-    rw (time-kind (s .args .kind) (rw (s .pre .0) at (s .pre .1)) (n .0 .0 .0 .1) (n .0 .0 .1) (n .0 .1) (n .1)) (c .time-at .ensures)
+    rw (time-kind (s .args .kind) (rw (s .pre .0) at (s .pre .1)) (n .0 .0 .0 .1) (n .0 .0 .1) (n .0 .1) (n .1)) (ap (λ (t : Time). time (t .days) (t .seconds) (t .microseconds)) (c .time-at .ensures))
 
 pub value-at-spec : {M : Type 1} → statement M
 value-at-spec =

@@ -1,7 +1,6 @@
 -- `octets::signed` meets its contract: the half is 1 shifted whole, and twice it is what the bytes are below. Assumes nothing.
 use Prim.Native.Nat.{ℕ, _*_, _-_, _^_, _≤_, _<_}
 use mathlib.Core.Path.{sym, ap₂, _∙_, subst}
-use native.Mathlib.Nat.{lt-of-lt-of-le}
 use native.Mathlib.Omega.{arith}
 use borrow.Author.Needs.{needs, sfits-of}
 use lib.Signed.{mag}
@@ -36,7 +35,7 @@ returns c =
     let e = half-is w (omega arith) in
     let m : mag (c .twos-complement .result) < 2 ^ (8 * w - 1) = rw e at (c .twos-complement .ensures .1) in
     rw (toZ-ofZ (sfits-of (c .twos-complement .ok)))
-    (c .twos-complement .ensures .0 ∙ ap₂ twosComplement e (c .before .unsigned .ensures .0), lt-of-lt-of-le m (half-le w (omega arith)))
+    (c .twos-complement .ensures .0 ∙ ap₂ twosComplement e (c .before .unsigned .ensures .0), m)
 
 pub signed-spec : {M : Type 1} → statement M
 signed-spec = tie.close (tie.spec mul-half sub-half shl-half unsigned-requires twos-complement-requires returns)

@@ -1,4 +1,4 @@
--- `dsd::is_called` meets its contract: what is left of the name from `i` on decides the whole name.
+-- `text::is_called` meets its contract: what is left of the name from `i` on decides the whole name.
 -- Assumes nothing.
 use Prim.Native.Nat.{_+_, _-_, _≤_}
 use mathlib.Core.Path.{_≡_, sym, _∙_}
@@ -7,9 +7,9 @@ use lib.ListN.{length, drop}
 use borrow.Author.Tests.{ne-eqb, eq-eqb}
 use Rattle.layout.specs.Bytes.{part}
 use Rattle.layout.specs.Entries.{called}
-use Rattle.dsd.proofs.Names.{name-start, name-step, name-end}
-use Rattle.dsd.proofs.is_called.Statement.{statement}
-use Rattle.dsd.proofs.is_called.Tie as tie
+use Rattle.text.proofs.Names.{name-start, name-step, name-end}
+use Rattle.text.proofs.is_called.Statement.{statement}
+use Rattle.text.proofs.is_called.Tie as tie
 
 abbrev Inv-loop : tie.InvT-loop
 Inv-loop p start name i₀ i =
