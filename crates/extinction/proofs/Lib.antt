@@ -1,0 +1,6 @@
+mod Found
+mod Pixels
+mod Measured
+mod Calls
+pub mod Promises
+pub mod Model

@@ -1,0 +1,2 @@
+pub mod Extinction
+pub mod Found
