@@ -77,7 +77,7 @@ pub(crate) fn field_in(
     })
 }
 
-fn time_in(bytes: [u8; 12]) -> Time {
+pub(crate) fn time_in(bytes: [u8; 12]) -> Time {
     let [a, b, c, d, e, f, g, h, i, j, k, l] = bytes;
     Time {
         days: i32::from_be_bytes([a, b, c, d]),

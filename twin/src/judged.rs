@@ -1,6 +1,6 @@
 //! A judged product: rules 1 to 16 in order, and what the other calls need of a product they hold for.
 
-use crate::descriptors::{check_descriptors, Entry};
+use crate::descriptors::{check_descriptors, Entry, NAME_LENGTH};
 use crate::layout::MAIN_HEADER_SIZE;
 use crate::main_header::check_main_header;
 use crate::refusal::Refusal;
@@ -42,6 +42,11 @@ impl<'a> Judged<'a> {
     /// The DSD of an entry.
     pub fn descriptor(&self, entry: usize) -> &[u8] {
         self.listed().descriptor(entry)
+    }
+
+    /// The entry of a type and name, where there is exactly one.
+    pub fn only_entry(&self, set_type: u8, name: &[u8; NAME_LENGTH]) -> Option<usize> {
+        self.listed().only_entry(set_type, name)
     }
 
     fn listed(&self) -> Listed<'_> {

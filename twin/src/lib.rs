@@ -1,9 +1,11 @@
 //! A reader of Envisat products by document 01 and the orders of document 02: it checks a product, lists it, answers
-//! its header values, and hands out SPH lines, records, fields and points. Every call judges the product first.
+//! its header values, hands out SPH lines, records, fields and points, and the pixels of a residual extinction
+//! product. Every call judges the product first.
 
 pub mod builder;
 mod descriptors;
 mod directory;
+mod extinction;
 mod fields;
 mod judged;
 mod layout;
@@ -21,6 +23,7 @@ pub mod words;
 
 pub use descriptors::ENTRIES;
 pub use directory::Directory;
+pub use extinction::{Pixel, PIXELS};
 pub use fields::{FieldAnswer, Point, Time};
 pub use listing::{listing, LONGEST_LISTED};
 pub use main_header::HeaderValues;
@@ -107,4 +110,10 @@ pub fn point(
     let part = record_place(product, entry, record)?;
     let offsets = (latitude_offset, longitude_offset, altitude_offset);
     fields::point_in(part.of(product), entry, offsets.0, offsets.1, offsets.2)
+}
+
+/// A pixel of a record of the residual extinction product: refusals 22, 18, 23 and 24 after the product's own.
+pub fn extinction(product: &[u8], record: u64, pixel: u64) -> Result<Pixel, Refusal> {
+    let judged = Judged::of(product)?;
+    extinction::pixel_of(&judged, record, pixel)
 }

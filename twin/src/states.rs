@@ -69,6 +69,15 @@ impl<'a> Listed<'a> {
         &self.descriptors[entry * DESCRIPTOR_SIZE..(entry + 1) * DESCRIPTOR_SIZE]
     }
 
+    /// The entry of a type and name, where there is exactly one.
+    pub fn only_entry(&self, set_type: u8, name: &[u8; NAME_LENGTH]) -> Option<usize> {
+        let mut found = (0..self.entries.len()).filter(|&entry| {
+            self.entries[entry].set_type == set_type && name_in(self.descriptor(entry)) == name
+        });
+        let only = found.next()?;
+        found.next().is_none().then_some(only)
+    }
+
     /// The bytes of a set that lies within the product.
     fn set(&self, entry: usize) -> &'a [u8] {
         let Entry { offset, size, .. } = self.entries[entry];
@@ -107,12 +116,7 @@ pub(crate) fn check_states(listed: Listed) -> Result<usize, Refusal> {
 
 /// The one entry of type A named STATES, whose record size is right unless it is empty.
 fn states_entry(listed: Listed) -> Result<usize, Refusal> {
-    let mut found = (0..listed.entries.len()).filter(|&entry| {
-        listed.entries[entry].set_type == b'A' && name_in(listed.descriptor(entry)) == STATES
-    });
-    let (Some(states), None) = (found.next(), found.next()) else {
-        return Err(Refusal::without_entry(15, 0));
-    };
+    let states = listed.only_entry(b'A', &STATES).ok_or(Refusal::without_entry(15, 0))?;
     let values = &listed.entries[states];
     if values.is_filled() && values.record_size != STATE_SIZE as i64 {
         return Err(Refusal::of_entry(15, values.offset as u64, states));

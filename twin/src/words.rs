@@ -2,9 +2,12 @@
 //! doubles.
 
 use crate::{
-    directory, field, header_values, judge, point, record_part, record_place, sph_part, sph_place,
+    directory, extinction, field, header_values, judge, point, record_part, record_place, sph_part,
+    sph_place,
 };
-use crate::{Directory, FieldAnswer, HeaderValues, Part, Point, Refusal, Verdict, ENTRIES};
+use crate::{
+    Directory, FieldAnswer, HeaderValues, Part, Pixel, Point, Refusal, Time, Verdict, ENTRIES,
+};
 
 pub const VERDICT_WORDS: usize = 3;
 pub const PLACE_WORDS: usize = 5;
@@ -12,6 +15,8 @@ pub const PART_WORDS: usize = 1;
 pub const FIELD_WORDS: usize = 7;
 pub const POINT_WORDS: usize = 3;
 pub const POINT_DOUBLES: usize = 3;
+pub const EXTINCTION_WORDS: usize = 11;
+pub const EXTINCTION_DOUBLES: usize = 1;
 pub const HEADER_WORDS: usize = 25;
 pub const HEADER_TEXTS: usize = 289;
 pub const DIRECTORY_WORDS: usize = 772;
@@ -29,6 +34,7 @@ pub enum Call {
     RecordPart { entry: usize, record: usize },
     FieldAt { entry: usize, record: usize, offset: usize, kind: usize },
     PointAt { entry: usize, record: usize, offsets: [usize; 3] },
+    ExtinctionAt { record: usize, pixel: usize },
 }
 
 /// What a call writes into the rooms it is lent; a room that the call does not have is empty here.
@@ -37,7 +43,7 @@ pub struct Answer {
     pub words: Vec<u64>,
     /// The texts of directory or header values, or the bytes of a part.
     pub bytes: Vec<u8>,
-    /// The bits of a point's doubles.
+    /// The bits of a point's doubles, or of a pixel's model.
     pub double_bits: Vec<u64>,
 }
 
@@ -62,6 +68,9 @@ impl Call {
             Call::PointAt { entry, record, offsets } => {
                 let [latitude, longitude, altitude] = offsets.map(|offset| offset as u64);
                 point_answer(point(product, entry, record as u64, latitude, longitude, altitude))
+            }
+            Call::ExtinctionAt { record, pixel } => {
+                extinction_answer(extinction(product, record as u64, pixel as u64))
             }
         }
     }
@@ -160,8 +169,8 @@ fn field_answer(answered: Result<FieldAnswer, Refusal>) -> Answer {
         Ok(FieldAnswer::Single(float)) => [2, u64::from(float.to_bits()), 0, 0],
         Ok(FieldAnswer::Double(float)) => [3, float.to_bits(), 0, 0],
         Ok(FieldAnswer::Time(time)) => {
-            let days = i64::from(time.days) as u64;
-            [4, days, u64::from(time.seconds), u64::from(time.microseconds)]
+            let [days, seconds, microseconds] = time_words(time);
+            [4, days, seconds, microseconds]
         }
         Err(refusal) => return Answer::refused(refusal, FIELD_WORDS, 0, 0),
     };
@@ -176,6 +185,24 @@ fn point_answer(answered: Result<Point, Refusal>) -> Answer {
     let doubles = [point.latitude, point.longitude, point.altitude];
     let double_bits = doubles.map(f64::to_bits).to_vec();
     Answer { words: vec![0; POINT_WORDS], bytes: Vec::new(), double_bits }
+}
+
+fn extinction_answer(answered: Result<Pixel, Refusal>) -> Answer {
+    let pixel = match answered {
+        Ok(pixel) => pixel,
+        Err(refusal) => return Answer::refused(refusal, EXTINCTION_WORDS, 0, EXTINCTION_DOUBLES),
+    };
+    let [days, seconds, microseconds] = time_words(pixel.time);
+    let quality = i64::from(pixel.quality) as u64;
+    let [transmission, covariance] = [pixel.transmission_bits, pixel.covariance_bits].map(u64::from);
+    let (code, flag) = (u64::from(pixel.model_code), u64::from(pixel.flag));
+    let words = [0, 0, 0, days, seconds, microseconds, quality, transmission, covariance, code, flag];
+    Answer { words: words.to_vec(), bytes: Vec::new(), double_bits: vec![pixel.model.to_bits()] }
+}
+
+/// Days with their sign, seconds and microseconds.
+fn time_words(time: Time) -> [u64; 3] {
+    [i64::from(time.days) as u64, u64::from(time.seconds), u64::from(time.microseconds)]
 }
 
 /// The six words of an entry among the directory's: type, offset, size, count, record size and rank.
