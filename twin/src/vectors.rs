@@ -7,7 +7,7 @@ use crate::words::{entry_words, Answer, Call};
 use crate::LONGEST_LISTED;
 
 /// The products whose text is stored, in its order.
-pub const VECTOR_PRODUCTS: [&str; 32] = [
+pub const VECTOR_PRODUCTS: [&str; 36] = [
     "case-b",
     "case-k",
     "case-l",
@@ -38,6 +38,10 @@ pub const VECTOR_PRODUCTS: [&str; 32] = [
     "empty-set-counted",
     "all-sets-empty",
     "sets-out-of-order",
+    "extinction",
+    "extinction-twice",
+    "extinction-empty",
+    "extinction-other-size",
     "listed-last",
     "listed-no-more",
 ];
@@ -49,6 +53,9 @@ const MOST_BYTES: usize = 16;
 /// Fields and points are asked of the first entries, and there of the first records.
 const ENTRIES_WITH_FIELDS: usize = 4;
 const RECORDS_WITH_FIELDS: usize = 3;
+/// The records and pixels of residual extinction that are asked for.
+const RECORDS_WITH_PIXELS: [usize; 2] = [0, 1];
+const PIXELS_ASKED: [usize; 4] = [0, 1167, 2335, 2336];
 
 /// Bytes of a DS_NAME and of a FILENAME.
 const NAME_LENGTH: usize = 28;
@@ -67,6 +74,7 @@ pub fn vectors(name: &str, product: &[u8]) -> Vec<u8> {
     lines.header();
     lines.numbers("sph_place", &[], &Call::SphPlace.answer(product).words);
     lines.part("sph_part", &[], &Call::SphPart);
+    lines.pixels();
     let entries = directory.words[3] as usize;
     for entry in 0..=entries {
         let count = if entry < entries { entry_words(&directory, entry)[3] } else { 0 };
@@ -125,6 +133,17 @@ impl Lines<'_> {
         let Answer { mut words, bytes, .. } = call.answer(self.product);
         words.extend(bytes.iter().take(MOST_BYTES).map(|&byte| u64::from(byte)));
         self.numbers(word, asked, &words);
+    }
+
+    /// Pixels of the first records: the first, one in the middle, the last, and one that is not there.
+    fn pixels(&mut self) {
+        for record in RECORDS_WITH_PIXELS {
+            for pixel in PIXELS_ASKED {
+                let answer = Call::ExtinctionAt { record, pixel }.answer(self.product);
+                let answered = [answer.words, answer.double_bits].concat();
+                self.numbers("extinction_at", &[record, pixel], &answered);
+            }
+        }
     }
 
     fn record(&mut self, entry: usize, record: usize) {

@@ -4,6 +4,7 @@
 mod catalogue;
 mod damage;
 mod description;
+mod extinction;
 mod generator;
 mod header_text;
 mod named;
@@ -12,5 +13,9 @@ mod shapes;
 
 pub use catalogue::CATALOGUE_NAMES;
 pub use description::{state_record, Description, EntryDescription, Number, Setting, StateDescription};
+pub use extinction::{
+    extinction_entry, extinction_record, time_bytes, PixelDescription, EXTINCTION_PIXELS,
+    EXTINCTION_RECORD,
+};
 pub use generator::Generator;
 pub use named::{named_product, wrapping_states, NamedProduct, Request, NAMED_PRODUCTS};

@@ -3,6 +3,7 @@
 
 use super::catalogue::{catalogue_description, thousand_states, CATALOGUE_NAMES};
 use super::description::{Description, EntryDescription, Number, StateDescription};
+use super::extinction;
 use super::generator::Generator;
 use crate::refusal::{Verdict, NO_ENTRY};
 
@@ -13,6 +14,7 @@ pub enum Request {
     Record { entry: usize, record: u64 },
     Field { entry: usize, record: u64, offset: u64, kind: u64 },
     Point { entry: usize, record: u64, offsets: [u64; 3] },
+    Pixel { record: u64, pixel: u64 },
 }
 
 /// A product, a request and whether the request is refused.
@@ -45,7 +47,7 @@ const LARGEST: u64 = i64::MAX as u64;
 const TOO_LARGE: Number = Number { minus: false, magnitude: 1 << 63 };
 
 /// The named products but those of [`CATALOGUE_NAMES`], which are all accepted, and `wrapping-states`.
-pub const NAMED_PRODUCTS: [NamedProduct; 60] = [
+pub const NAMED_PRODUCTS: [NamedProduct; 67] = [
     accepted("case-a", case_a),
     accepted("case-b", case_b),
     refused("case-c", case_c, (12, 1526, 0)),
@@ -93,6 +95,15 @@ pub const NAMED_PRODUCTS: [NamedProduct; 60] = [
         Request::Field { entry: 0, record: 2, offset: 2, kind: 5 },
     ),
     asked(refused("refusal-21", case_l, (21, 0, 0)), POINT),
+    asked(refused("refusal-22", extinction::twice, (22, 0, NO_ENTRY)), FIRST_PIXEL),
+    asked(
+        refused("refusal-23", extinction::told, (23, 2336, 1)),
+        Request::Pixel { record: 1, pixel: 2336 },
+    ),
+    asked(
+        refused("refusal-24", extinction::told, (24, 12, 1)),
+        Request::Pixel { record: 1, pixel: 2335 },
+    ),
     asked(
         accepted("unequal-lengths", || unequal_lengths().build()),
         Request::Record { entry: 2, record: 4 },
@@ -103,6 +114,10 @@ pub const NAMED_PRODUCTS: [NamedProduct; 60] = [
     refused("empty-set-counted", || demo_and_empty_set(2), (11, 1194, NO_ENTRY)),
     accepted("all-sets-empty", all_sets_empty),
     accepted("sets-out-of-order", sets_out_of_order),
+    asked(accepted("extinction", extinction::told), FIRST_PIXEL),
+    asked(refused("extinction-twice", extinction::twice, (22, 0, NO_ENTRY)), FIRST_PIXEL),
+    asked(refused("extinction-empty", extinction::empty, (18, 0, 1)), FIRST_PIXEL),
+    asked(refused("extinction-other-size", extinction::other_size, (22, 0, NO_ENTRY)), FIRST_PIXEL),
     refused("wrapping-records", wrapping_records, (10, 1247, 0)),
     refused("wrapping-set-end", wrapping_set_end, (12, LARGEST, 0)),
     refused("two-overlaps", two_overlaps, (13, 2382, 2)),
@@ -117,6 +132,7 @@ pub const NAMED_PRODUCTS: [NamedProduct; 60] = [
     refused("listed-no-more", || long_product(65_537), (14, 1247, NO_ENTRY)),
 ];
 
+const FIRST_PIXEL: Request = Request::Pixel { record: 0, pixel: 0 };
 const POINT: Request = Request::Point { entry: 0, record: 0, offsets: [0, 4, 8] };
 
 /// The product of a name: of [`NAMED_PRODUCTS`], of [`CATALOGUE_NAMES`], or `wrapping-states`.

@@ -22,7 +22,7 @@ fn every_named_product_is_answered_as_expected() {
 
 #[test]
 fn every_refusal_but_2_has_a_product() {
-    for number in (1..=21).filter(|&number| number != 2) {
+    for number in (1..=24).filter(|&number| number != 2) {
         let name = format!("refusal-{number}");
         let named = NAMED_PRODUCTS.iter().find(|named| named.name == name).expect(&name);
         assert!(matches!(named.expected, Verdict::Refused { number: given, .. } if given == number));

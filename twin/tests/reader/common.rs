@@ -1,7 +1,7 @@
 //! What the tests share: short forms of verdicts and requests.
 
 use twin::builder::{Description, EntryDescription, Number, Request};
-use twin::{field, judge, point, record_place, Refusal, Verdict};
+use twin::{extinction, field, judge, point, record_place, Refusal, Verdict};
 
 pub const NONE: usize = 128;
 
@@ -44,6 +44,7 @@ pub fn answer(product: &[u8], request: Request) -> Verdict {
         Request::Point { entry, record, offsets: [latitude, longitude, altitude] } => {
             point(product, entry, record, latitude, longitude, altitude).err()
         }
+        Request::Pixel { record, pixel } => extinction(product, record, pixel).err(),
     };
     refused.map_or(Verdict::Accepted, Verdict::from)
 }

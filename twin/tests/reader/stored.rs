@@ -84,14 +84,14 @@ fn the_text_shows_every_refusal_but_2() {
     for (word, numbers) in lines_of_numbers() {
         let asked = match word.as_str() {
             "judge" | "directory" | "header" | "sph_place" => 0,
-            "record_place" => 2,
+            "record_place" | "extinction_at" => 2,
             "field_at" => 4,
             "point_at" => 5,
             _ => continue,
         };
         seen.insert(numbers[asked]);
     }
-    let expected = (0..=21).filter(|&number| number != 2).collect();
+    let expected = (0..=24).filter(|&number| number != 2).collect();
     assert_eq!(seen, expected);
 }
 
@@ -123,6 +123,7 @@ fn every_line_of_words_has_its_length() {
             "sph_place" => 5,
             "record_place" => 7,
             "field_at" | "point_at" => 11,
+            "extinction_at" => 14,
             _ => continue,
         };
         assert_eq!(numbers.len(), length, "{word} {numbers:?}");
