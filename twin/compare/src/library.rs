@@ -88,6 +88,17 @@ extern "C" {
         point: *mut f64,
         point_length: usize,
     ) -> u32;
+
+    fn ambrothel_extinction_at(
+        product: *const u8,
+        length: usize,
+        record: usize,
+        pixel: usize,
+        words: *mut u64,
+        words_length: usize,
+        model: *mut f64,
+        model_length: usize,
+    ) -> u32;
 }
 
 // Safety, for every call below: a slice's pointer is not null and good for its length, and the borrows keep the
@@ -177,8 +188,37 @@ fn point_at(
     }
 }
 
+pub fn extinction_at(
+    product: &[u8],
+    record: usize,
+    pixel: usize,
+    words: &mut [u64],
+    model: &mut [f64],
+) -> u32 {
+    let (start, length) = (product.as_ptr(), product.len());
+    let (room, model_room) = (words.as_mut_ptr(), model.as_mut_ptr());
+    unsafe {
+        ambrothel_extinction_at(
+            start,
+            length,
+            record,
+            pixel,
+            room,
+            words.len(),
+            model_room,
+            model.len(),
+        )
+    }
+}
+
 /// Asks a call, lending it those of the rooms that it has.
-pub fn ask(product: &[u8], call: &Call, words: &mut [u64], bytes: &mut [u8], point: &mut [f64]) -> u32 {
+pub fn ask(
+    product: &[u8],
+    call: &Call,
+    words: &mut [u64],
+    bytes: &mut [u8],
+    doubles: &mut [f64],
+) -> u32 {
     match *call {
         Call::Judge => judge(product, words),
         Call::OpenDirectory => open_directory(product, words, bytes),
@@ -191,7 +231,8 @@ pub fn ask(product: &[u8], call: &Call, words: &mut [u64], bytes: &mut [u8], poi
             field_at(product, entry, record, offset, kind, words)
         }
         Call::PointAt { entry, record, offsets } => {
-            point_at(product, entry, record, offsets, words, point)
+            point_at(product, entry, record, offsets, words, doubles)
         }
+        Call::ExtinctionAt { record, pixel } => extinction_at(product, record, pixel, words, doubles),
     }
 }

@@ -12,7 +12,7 @@ pub(crate) const SPH_SIZE_WORD: usize = 21;
 pub(crate) const ENTRIES_WORD: usize = 3;
 
 /// Counts by refusal number; at 0, of what was not refused.
-pub type ByNumber = [u64; 22];
+pub type ByNumber = [u64; 25];
 
 #[derive(Clone, Debug, Default, PartialEq, Eq)]
 pub struct Met {
@@ -21,6 +21,7 @@ pub struct Met {
     /// Of these the verdicts on products.
     pub verdicts: ByNumber,
     pub points_answered: u64,
+    pub pixels_answered: u64,
     /// Products with an empty set: accepted ones, whose NUM_DATA_SETS leaves it out, and those that are refused 11
     /// only because theirs does not.
     pub empty_sets_left_out: u64,
@@ -50,6 +51,7 @@ impl Met {
             }
             Call::HeaderValues => self.longest_sph = self.longest_sph.max(answer.words[SPH_SIZE_WORD]),
             Call::PointAt { .. } => self.points_answered += u64::from(number == 0),
+            Call::ExtinctionAt { .. } => self.pixels_answered += u64::from(number == 0),
             Call::SphPlace | Call::RecordPlace { .. } | Call::FieldAt { .. } => {}
         }
         self.answers[number] += 1;
@@ -71,6 +73,7 @@ impl Met {
         add(&mut self.answers, &other.answers);
         add(&mut self.verdicts, &other.verdicts);
         self.points_answered += other.points_answered;
+        self.pixels_answered += other.pixels_answered;
         self.empty_sets_left_out += other.empty_sets_left_out;
         self.empty_sets_counted += other.empty_sets_counted;
         self.out_of_entry_order += other.out_of_entry_order;

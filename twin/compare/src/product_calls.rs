@@ -1,8 +1,9 @@
-//! Every public call on one product: the whole-product calls, records, fields and points of each entry, and
-//! what is not there.
+//! Every public call on one product: the whole-product calls, records, fields and points of each entry, a pixel of
+//! residual extinction, and what is not there.
 
 use twin::builder::Generator;
 use twin::words::{entry_words, Answer, Call};
+use twin::PIXELS;
 
 use crate::comparing::Comparer;
 use crate::file_order::by_rank;
@@ -82,7 +83,7 @@ impl Comparer {
         }
     }
 
-    /// The calls on the product as a whole, and on records that are not there.
+    /// The calls on the product as a whole, on records that are not there, and on a pixel, which few products have.
     fn compare_whole(&mut self, product: &[u8], choices: &mut Generator) -> Answer {
         for call in [Call::Judge, Call::HeaderValues, Call::SphPlace, Call::SphPart] {
             self.compare(product, call);
@@ -95,6 +96,8 @@ impl Comparer {
         let far = choices.choose(&FAR);
         let (entry, record) = choices.choose(&[(entries, 0), (far, 0), (entry, far)]);
         self.compare_refused(product, entry, record, choices);
+        let (record, pixel) = (choices.index(3), choices.index(PIXELS + 1));
+        self.compare(product, Call::ExtinctionAt { record, pixel });
         directory
     }
 

@@ -9,6 +9,7 @@ mod generator;
 mod header_text;
 mod named;
 mod product;
+mod random_extinction;
 mod shapes;
 
 pub use catalogue::CATALOGUE_NAMES;

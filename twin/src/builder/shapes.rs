@@ -12,13 +12,14 @@ const LONGEST_SPH: usize = 49_152;
 const DRAWN: usize = 1000;
 
 impl Generator {
-    /// A product of a sort: `good`, `damaged` or `any`; `good-LENGTH` or `damaged-LENGTH`, which had that length
-    /// before; or `longest-listing`.
+    /// A product of a sort: `good`, `damaged` or `any`; `extinction`; `good-LENGTH` or `damaged-LENGTH`, which had that
+    /// length before; or `longest-listing`.
     pub fn of_sort(&mut self, sort: &str) -> Option<Vec<u8>> {
         match sort.split_once('-') {
             None if sort == "good" => Some(self.good()),
             None if sort == "damaged" => Some(self.damaged()),
             None if sort == "any" => Some(self.any()),
+            None if sort == "extinction" => Some(self.extinction()),
             Some(("good", length)) => Some(self.of_length(length.parse().ok()?)?.build()),
             Some(("damaged", length)) => {
                 let description = self.of_length(length.parse().ok()?)?;
@@ -74,7 +75,7 @@ impl Generator {
 
     /// Puts the sets one behind another: in the order of their entries once in three times, the other way round once
     /// in six, otherwise in any order.
-    fn place_sets(&mut self, description: &mut Description) {
+    pub(super) fn place_sets(&mut self, description: &mut Description) {
         let mut order: Vec<usize> = (0..description.entries.len()).collect();
         match self.below(6) {
             0 | 1 => {}
@@ -98,7 +99,7 @@ impl Generator {
         }
     }
 
-    fn few_lines(&mut self) -> Vec<u8> {
+    pub(super) fn few_lines(&mut self) -> Vec<u8> {
         (0..self.index(5)).flat_map(|_| self.sph_line()).collect()
     }
 

@@ -36,6 +36,7 @@ fn every_byte_of_a_descriptor_is_looked_at_alike() {
     replace_each("case-b", product("case-b"), 1247..1527);
     let two_forms = product("every-entry-form");
     replace_each("every-entry-form", two_forms, 1247..1247 + 560);
+    replace_each("extinction-empty", product("extinction-empty"), 1247..1247 + 560);
 }
 
 #[test]

@@ -2,6 +2,7 @@
 
 mod common;
 mod cuts;
+mod extinction;
 mod fields;
 mod file_orders;
 mod header_bytes;

@@ -40,6 +40,31 @@ fn cases_a_to_l_are_answered_as_document_01_says() {
     expect_words("case-l", point, &[21, 0, 0], &[0, 0, 0]);
 }
 
+/// Record 0 is of quality -2 on the day before 2000, record 1 of quality -1; EXT_MDS is entry 1.
+#[test]
+fn pixels_are_answered_as_order_1_says() {
+    let pixel = |record, pixel| Call::ExtinctionAt { record, pixel };
+    let (day_before, quality) = (u64::MAX, u64::MAX - 1);
+    let first = [0, 0, 0, day_before, 86_399, 999_999, quality, 0x7fa1_2345, 0xffc0_0001, 0, 4];
+    expect_words("extinction", pixel(0, 0), &first, &[0]);
+    let middle = [0, 0, 0, day_before, 86_399, 999_999, quality, 0x3f80_0000, 1, 65_535, 1];
+    expect_words("extinction", pixel(0, 1167), &middle, &[2f64.to_bits()]);
+    for (name, call, refusal) in [
+        ("case-e", pixel(0, 0), [14, 1542, 128]),
+        ("case-b", pixel(0, 0), [22, 0, 128]),
+        ("extinction-twice", pixel(0, 2336), [22, 0, 128]),
+        ("extinction-other-size", pixel(0, 0), [22, 0, 128]),
+        ("extinction-empty", pixel(0, 2336), [18, 0, 1]),
+        ("extinction", pixel(2, 2336), [18, 0, 1]),
+        ("extinction", pixel(0, 2336), [23, 2336, 1]),
+        ("extinction", pixel(1, usize::MAX), [23, u64::MAX, 1]),
+        ("extinction", pixel(1, 2335), [24, 12, 1]),
+    ] {
+        let words = [&refusal[..], &[0; 8]].concat();
+        expect_words(name, call, &words, &[0]);
+    }
+}
+
 #[test]
 fn named_products_are_answered_as_the_twin_does() {
     for named in &NAMED_PRODUCTS {

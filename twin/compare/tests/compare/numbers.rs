@@ -52,6 +52,7 @@ fn every_number_of_the_descriptors_has_its_edges() {
         ("unequal-lengths", 20),
         ("sets-out-of-order", 24),
         ("minus-zeros", 4),
+        ("extinction-empty", 4),
         ("GOM_RR__2P", 16),
     ] {
         let product = product(name);

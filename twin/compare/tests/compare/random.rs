@@ -28,6 +28,7 @@ fn assert_met(met: &Met, products: u64) {
     for number in 17..=21 {
         assert!(met.answers[number] >= products / 10, "refusal {number}: {seen}");
     }
+    assert!(met.answers[22] >= products / 10, "refusal 22: {seen}");
     assert!(met.points_answered >= products / 20, "points answered: {seen}");
     assert!(met.empty_sets_left_out >= products / 100, "empty sets left out: {seen}");
     assert!(met.empty_sets_counted >= products / 100, "empty sets counted: {seen}");

@@ -2,12 +2,13 @@
 
 use compare::{Comparer, Lengths};
 use twin::words::{Call, DIRECTORY_TEXTS, DIRECTORY_WORDS, HEADER_TEXTS, HEADER_WORDS};
-use twin::words::{FIELD_WORDS, PART_WORDS, PLACE_WORDS, POINT_DOUBLES, POINT_WORDS, VERDICT_WORDS};
+use twin::words::{EXTINCTION_DOUBLES, EXTINCTION_WORDS, FIELD_WORDS, PART_WORDS, PLACE_WORDS};
+use twin::words::{POINT_DOUBLES, POINT_WORDS, VERDICT_WORDS};
 
 use crate::common::product;
 
 /// The calls, with the lengths that their rooms have whatever the product.
-fn calls(entry: usize, record: usize) -> [(Call, [usize; 2]); 9] {
+fn calls(entry: usize, record: usize) -> [(Call, [usize; 2]); 10] {
     let field = Call::FieldAt { entry, record, offset: 0, kind: 2 };
     [
         (Call::Judge, [VERDICT_WORDS, 0]),
@@ -19,6 +20,7 @@ fn calls(entry: usize, record: usize) -> [(Call, [usize; 2]); 9] {
         (Call::RecordPart { entry, record }, [PART_WORDS, 0]),
         (field, [FIELD_WORDS, 0]),
         (Call::PointAt { entry, record, offsets: [0; 3] }, [POINT_WORDS, POINT_DOUBLES]),
+        (Call::ExtinctionAt { record, pixel: 1167 }, [EXTINCTION_WORDS, EXTINCTION_DOUBLES]),
     ]
 }
 
@@ -53,7 +55,16 @@ fn lend_short(comparer: &mut Comparer, product: &[u8], call: Call, needed: Lengt
 #[test]
 fn short_rooms_are_refused_and_exact_ones_filled() {
     let places = [(0, 0), (0, 2), (2, 4), (3, 0), (500, 0)];
-    for name in ["case-b", "case-e", "case-j", "unequal-lengths", "descriptors-128", "GOM_RR__2P"] {
+    for name in [
+        "case-b",
+        "case-e",
+        "case-j",
+        "unequal-lengths",
+        "descriptors-128",
+        "GOM_RR__2P",
+        "extinction",
+        "extinction-twice",
+    ] {
         let product = product(name);
         let mut comparer = Comparer::of(name);
         for (entry, record) in places {
