@@ -1,5 +1,6 @@
-//! Times judge and directory through the library and in the twin, on the same products in one run, and prints a
-//! table: the best of many rounds for each, which alternate, with product and rooms warm.
+//! Times judge and directory, and a pixel of residual extinction, through the library and in the twin, on the same
+//! products in one run, and prints a table: the best of many rounds for each, which alternate, with product and rooms
+//! warm.
 
 use std::hint::black_box;
 use std::time::{Duration, Instant};
@@ -7,6 +8,7 @@ use std::time::{Duration, Instant};
 use compare::{library, Comparer};
 use twin::builder::named_product;
 use twin::words::{Call, DIRECTORY_TEXTS, DIRECTORY_WORDS, VERDICT_WORDS};
+use twin::words::{EXTINCTION_DOUBLES, EXTINCTION_WORDS};
 
 /// Rounds of each reader, and how long one round should take.
 const ROUNDS: usize = 60;
@@ -23,13 +25,17 @@ const PRODUCTS: [(&str, &str); 10] = [
     ("sph-49152", "49,152 bytes of SPH: one blank line"),
     ("sph-long-lines", "49,152 bytes of SPH: long lines"),
     ("sph-short-lines", "49,152 bytes of SPH: A=1"),
-    ("GOM_EXT_2P", "GOMOS EXT"),
+    (WITH_PIXELS, "GOMOS EXT"),
 ];
+/// The product whose pixel is asked for, in the middle of its record.
+const WITH_PIXELS: &str = "GOM_EXT_2P";
+const PIXEL: usize = 1167;
 
 /// The rooms of the library's answers.
 struct Rooms {
     words: [u64; DIRECTORY_WORDS],
     texts: [u8; DIRECTORY_TEXTS],
+    model: [f64; EXTINCTION_DOUBLES],
 }
 
 /// The best time of one run of each, in nanoseconds: ours, then the twin's.
@@ -87,6 +93,19 @@ fn time_directory(product: &[u8], rooms: &mut Rooms) -> [f64; 2] {
     best_of_both(ours, twins)
 }
 
+fn time_pixel(product: &[u8], rooms: &mut Rooms) -> [f64; 2] {
+    let (words, model) = (&mut rooms.words[..EXTINCTION_WORDS], &mut rooms.model);
+    let ours = || {
+        let returned = library::extinction_at(black_box(product), 0, black_box(PIXEL), words, model);
+        assert_eq!(returned, library::WRITTEN);
+        black_box((&mut *words, &mut *model));
+    };
+    let twins = || {
+        black_box(&twin::extinction(black_box(product), 0, black_box(PIXEL as u64)));
+    };
+    best_of_both(ours, twins)
+}
+
 /// The release profile of the twin's workspace, as its Cargo.toml says it.
 fn release_profile() -> String {
     let manifest = include_str!("../../../Cargo.toml");
@@ -108,22 +127,43 @@ fn print_compilers() {
     println!();
 }
 
+/// Prints a row of the table.
+fn print_row(call: &str, title: &str, [ours, twins]: [f64; 2]) {
+    println!("{call:<10} {title:<36} {ours:>10.0} {twins:>10.0} {:>10.2}", ours / twins);
+}
+
+/// Prints the rows of a product; where it has pixels, answers a pixel's times by its verdict's: ours, then the twin's.
+fn time_product(name: &str, title: &str, rooms: &mut Rooms) -> Option<[f64; 2]> {
+    let product = named_product(name).expect(name);
+    let verdict = Comparer::of(name).compare(&product, Call::Judge);
+    assert_eq!(verdict.words, [0, 0, 0], "{name} is not accepted");
+    let judge = time_judge(&product, rooms);
+    print_row("judge", title, judge);
+    print_row("directory", title, time_directory(&product, rooms));
+    if name != WITH_PIXELS {
+        return None;
+    }
+    let answer = Comparer::of(name).compare(&product, Call::ExtinctionAt { record: 0, pixel: PIXEL });
+    assert_eq!(answer.words[..3], [0, 0, 0], "the pixel of {name} is not answered");
+    let pixel = time_pixel(&product, rooms);
+    print_row("pixel", title, pixel);
+    Some([pixel[0] / judge[0], pixel[1] / judge[1]])
+}
+
 fn main() {
     print_compilers();
-    let mut rooms = Rooms { words: [0; DIRECTORY_WORDS], texts: [0; DIRECTORY_TEXTS] };
+    let mut rooms = Rooms {
+        words: [0; DIRECTORY_WORDS],
+        texts: [0; DIRECTORY_TEXTS],
+        model: [0.0; EXTINCTION_DOUBLES],
+    };
     println!(
         "{:<10} {:<36} {:>10} {:>10} {:>10}",
         "call", "product", "ours/ns", "twin/ns", "ours/twin"
     );
-    for (name, title) in PRODUCTS {
-        let product = named_product(name).expect(name);
-        let verdict = Comparer::of(name).compare(&product, Call::Judge);
-        assert_eq!(verdict.words, [0, 0, 0], "{name} is not accepted");
-        for (call, [ours, twins]) in [
-            ("judge", time_judge(&product, &mut rooms)),
-            ("directory", time_directory(&product, &mut rooms)),
-        ] {
-            println!("{call:<10} {title:<36} {ours:>10.0} {twins:>10.0} {:>10.2}", ours / twins);
-        }
+    let timed = PRODUCTS.map(|(name, title)| time_product(name, title, &mut rooms));
+    println!();
+    for [ours, twins] in timed.into_iter().flatten() {
+        println!("pixel by judge on {WITH_PIXELS}: ours {ours:.2}, twin {twins:.2}");
     }
 }
