@@ -1,6 +1,8 @@
 //! Products with the facts of the source documents: entry names, types, record sizes and SPH lines of
-//! GOMOS (source 001) and SCIAMACHY (source 003) products. Record contents are a pattern.
+//! GOMOS (source 001) and SCIAMACHY (source 003) products. Record contents are a pattern, but for the states, for the
+//! ray tracing grid of GOM_TRA_1P, and for GOM_EXT_2P, which shows a star through the atmosphere.
 
+use super::atmosphere::observe_star;
 use super::description::{Description, EntryDescription, Number, StateDescription};
 
 /// The facts of one product: SPH lines, sets (type, name, records, record size), and behind them the names of the
@@ -386,6 +388,7 @@ pub(super) fn catalogue_description(name: &str) -> Option<Description> {
     let mut description = described(facts);
     attach_states(&mut description, &STATES);
     trace_rays(&mut description);
+    observe_star(&mut description);
     Some(description)
 }
 

@@ -1,6 +1,7 @@
 //! Building products: from a description, by name, from facts of the source documents, or at random.
 //! Nothing here uses the reader's layout tables.
 
+mod atmosphere;
 mod catalogue;
 mod damage;
 mod description;
