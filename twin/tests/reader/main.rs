@@ -3,6 +3,7 @@
 mod cases;
 mod common;
 mod descriptors;
+mod extinction;
 mod header_text;
 mod listing;
 mod programs;

@@ -35,7 +35,7 @@ fn lengths_are_those_of_the_header() {
 fn answers_have_their_lengths_accepted_or_refused() {
     let field = Call::FieldAt { entry: 0, record: 0, offset: 0, kind: 1 };
     let point = Call::PointAt { entry: 0, record: 0, offsets: [0, 4, 8] };
-    for name in ["case-k", "case-l", "case-e", "case-j"] {
+    for name in ["case-k", "case-l", "case-e", "case-j", "extinction"] {
         let product = named_product(name).unwrap();
         for (call, words, bytes, doubles) in [
             (Call::Judge, 3, 0, 0),
@@ -45,6 +45,7 @@ fn answers_have_their_lengths_accepted_or_refused() {
             (Call::RecordPlace { entry: 0, record: 0 }, 5, 0, 0),
             (field, 7, 0, 0),
             (point, 3, 0, 3),
+            (Call::ExtinctionAt { record: 0, pixel: 0 }, 11, 0, 1),
         ] {
             let answer = call.answer(&product);
             let lengths = (answer.words.len(), answer.bytes.len(), answer.double_bits.len());
@@ -60,6 +61,24 @@ fn a_kind_beyond_a_byte_is_unknown() {
         let call = Call::FieldAt { entry: 0, record: 0, offset: 0, kind };
         assert_eq!(call.answer(&product).words, [19, 0, 0, 0, 0, 0, 0], "{kind}");
     }
+}
+
+/// Days and quality are negative: their words are of 64 bits. Beside a refusal there are zeros, the model's too.
+#[test]
+fn a_pixel_stands_in_eleven_words_and_a_double() {
+    let product = named_product("extinction").unwrap();
+    let asked = |record, pixel| Call::ExtinctionAt { record, pixel }.answer(&product);
+    let (day, quality) = (u64::MAX, u64::MAX - 1);
+    let answer = asked(0, 1167);
+    let words = [0, 0, 0, day, 86_399, 999_999, quality, 0x3f80_0000, 1, 65_535, 1];
+    assert_eq!((answer.words, answer.double_bits), (words.to_vec(), vec![2f64.to_bits()]));
+    for (record, pixel, refusal) in [(2, 0, [18, 0, 1]), (1, 2336, [23, 2336, 1]), (1, 0, [24, 12, 1])]
+    {
+        let answer = asked(record, pixel);
+        assert_eq!(answer.words, [&refusal[..], &[0; 8]].concat());
+        assert_eq!(answer.double_bits, [0]);
+    }
+    assert_eq!(asked(1, usize::MAX).words[..3], [23, u64::MAX, 1]);
 }
 
 /// Every number of the main header is another one, so that no two can be exchanged.
