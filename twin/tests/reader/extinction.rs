@@ -239,7 +239,8 @@ fn a_code_is_twice_itself_over_65535() {
     assert_eq!(model_of(21_845).to_bits(), (2.0f64 / 3.0).to_bits());
     assert_eq!(model_of(32_768).to_bits(), 0x3ff0_0010_0010_0010);
     assert_eq!(model_of(65_535).to_bits(), 2f64.to_bits());
-    assert!(65_535.0 * 3.0518e-5 != 2.0, "the printed step misses 2");
+    let printed_step = 3.0518e-5;
+    assert_ne!(model_of(65_535), 65_535.0 * printed_step);
 }
 
 #[test]
