@@ -1,5 +1,7 @@
 // The reader for C and Rust: every public call, its answer written into rooms that the host lends. `include/ambrothel.h` declares them.
 // A room too short for the answer returns 1, and nothing is written.
+use extinction_words::put_model;
+use extinction_words::put_pixel;
 use layout::Directory;
 use layout::Verdict;
 use words::ROOM_TOO_SHORT;
@@ -19,6 +21,8 @@ ghost use Rattle.layout.specs.Fields.{fieldReply, pointReply};
 ghost use Rattle.words.specs.Words.{verdictWords, placeWords, fieldWords};
 ghost use Rattle.words.specs.Lent.{OneRoom};
 ghost use Rattle.words.specs.Rooms.{PartRooms, PointRooms};
+ghost use Rattle.extinction.specs.Extinction.{pixelReply};
+ghost use Rattle.extinction_words.specs.PixelWords.{PixelRooms};
 ghost use Rattle.ambrothel.specs.Calls.{DirectoryCall, HeaderCall};
 
 #[no_mangle]
@@ -166,5 +170,27 @@ pub extern "C" fn ambrothel_point_at(
     let answer = product::point_at(p, entry, asked, latitude, longitude, altitude);
     put_point(words, answer);
     put_doubles(point, answer);
+    WRITTEN
+}
+
+#[no_mangle]
+pub extern "C" fn ambrothel_extinction_at(
+    p: &[u8],
+    asked: usize,
+    pixel: usize,
+    words: &mut [u64],
+    model: &mut [f64],
+) -> u32
+    ensures { λ r. ⌜ PixelRooms (pixelReply (now (p .entry)) asked pixel) (now (words .entry)) (now (words .exit)) (now (model .entry)) (now (model .exit)) r ⌝ }
+{
+    if words.len() < 11 {
+        return ROOM_TOO_SHORT;
+    }
+    if model.len() < 1 {
+        return ROOM_TOO_SHORT;
+    }
+    let answer = extinction::pixel_at(p, asked, pixel);
+    put_pixel(words, answer);
+    put_model(model, answer);
     WRITTEN
 }

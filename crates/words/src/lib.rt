@@ -25,7 +25,7 @@ ghost use Rattle.writing.specs.Put.{Put};
 ghost use Rattle.words.specs.Words.{word, verdictWords, placeWords, valueWords, fieldWords, pointWords, pointDoubles};
 
 // Two's complement.
-fn word_of(number: i64) -> u64
+pub fn word_of(number: i64) -> u64
     ensures { λ r. ⌜ r ≡ word number ⌝ }
 {
     if number < 0 {
@@ -40,7 +40,7 @@ fn wide(byte: u8) -> u64
     byte as u64
 }
 
-fn put_words(room: &mut [u64], at: usize, words: &[u64]) -> usize
+pub fn put_words(room: &mut [u64], at: usize, words: &[u64]) -> usize
     requires { ⌜ at + length (now words) ≤ length (now room) ⌝ }
     ensures { λ r. ⌜ Put (length (now (words .entry))) (now (words .entry)) (now (room .entry)) (now (room .exit)) at r ⌝ }
 {
@@ -77,7 +77,7 @@ fn put_numbers(room: &mut [u64], at: usize, numbers: &[i64]) -> usize
     at + numbers.len()
 }
 
-fn put_refusal(room: &mut [u64], refusal: Refusal) -> usize
+pub fn put_refusal(room: &mut [u64], refusal: Refusal) -> usize
     requires { ⌜ 3 ≤ length (now room) ⌝ }
     ensures { λ r. ⌜ Put 3 (refusal .number ∷ refusal .place ∷ refusal .entry ∷ []) (now (room .entry)) (now (room .exit)) 0 r ⌝ }
 {
