@@ -5,6 +5,7 @@
  * Without ENTRY and RECORD it is record 0 of entry 0. The exit status is 0; 1 where something is refused; 2 where the
  * arguments are wrong, the product cannot be read or the output cannot be written. */
 #include "ambrothel.h"
+#include "reading.h"
 
 #include <inttypes.h>
 #include <stdio.h>
@@ -12,50 +13,6 @@
 #include <string.h>
 
 static const char *const KIND_NAMES[] = {"", "sc", "uc", "ss", "us", "sl", "ul", "fl", "do", "mjd"};
-
-/* The whole file, or NULL with a message. The room is never empty, so that there is a pointer to lend. */
-static uint8_t *read_file(const char *name, size_t *length)
-{
-    FILE *file = fopen(name, "rb");
-    if (file == NULL) {
-        perror(name);
-        return NULL;
-    }
-    size_t room = 65536;
-    uint8_t *bytes = malloc(room);
-    *length = 0;
-    while (bytes != NULL) {
-        *length += fread(bytes + *length, 1, room - *length, file);
-        if (*length < room) {
-            break;
-        }
-        room *= 2;
-        uint8_t *more = realloc(bytes, room);
-        if (more == NULL) {
-            free(bytes);
-        }
-        bytes = more;
-    }
-    if (bytes == NULL || ferror(file)) {
-        perror(name);
-        free(bytes);
-        bytes = NULL;
-    }
-    fclose(file);
-    return bytes;
-}
-
-/* Says what is refused, if something is. */
-static int is_refused(const uint64_t *words)
-{
-    const uint64_t number = words[AMBROTHEL_REFUSAL_NUMBER];
-    if (number == AMBROTHEL_NOT_REFUSED) {
-        return 0;
-    }
-    printf("refused %" PRIu64 " at %" PRIu64 ", entry %" PRIu64 ": %s\n", number, words[AMBROTHEL_REFUSAL_PLACE],
-           words[AMBROTHEL_REFUSAL_ENTRY], ambrothel_refusal_text(number));
-    return 1;
-}
 
 static void print_entry(size_t i, const uint64_t *words, const char *texts)
 {
@@ -81,7 +38,7 @@ static int show_directory(const uint8_t *product, size_t length)
     if (ambrothel_open_directory(product, length, words, AMBROTHEL_DIRECTORY_WORDS, texts, AMBROTHEL_DIRECTORY_TEXTS)) {
         return 1;
     }
-    if (is_refused(words)) {
+    if (is_refused(words, stdout)) {
         return 1;
     }
     for (size_t i = 0; i < words[AMBROTHEL_DIRECTORY_ENTRIES]; i++) {
@@ -118,7 +75,7 @@ static void print_field(size_t kind, const uint64_t *words)
 static int show_record(const uint8_t *product, size_t length, size_t entry, size_t record)
 {
     uint64_t place[AMBROTHEL_PLACE_WORDS];
-    if (ambrothel_record_place(product, length, entry, record, place, AMBROTHEL_PLACE_WORDS) || is_refused(place)) {
+    if (ambrothel_record_place(product, length, entry, record, place, AMBROTHEL_PLACE_WORDS) || is_refused(place, stdout)) {
         return 1;
     }
     printf("record %zu of entry %zu: %" PRIu64 " bytes at %" PRIu64 "\n", record, entry,
@@ -135,21 +92,6 @@ static int show_record(const uint8_t *product, size_t length, size_t entry, size
         print_field(kind, words);
     }
     return 0;
-}
-
-/* A number of decimal digits and nothing else, that a size_t holds; or a message. */
-static int read_number(const char *text, size_t *number)
-{
-    *number = 0;
-    for (const char *at = text; *at != '\0' || at == text; at++) {
-        const size_t digit = (size_t)(*at - '0');
-        if (*at < '0' || *at > '9' || *number > (SIZE_MAX - digit) / 10) {
-            fprintf(stderr, "show: '%s' is not a number of 0 to %zu\n", text, SIZE_MAX);
-            return 0;
-        }
-        *number = 10 * *number + digit;
-    }
-    return 1;
 }
 
 static int show_product(const char *name, size_t entry, size_t record)
@@ -175,13 +117,8 @@ int main(int count, char **arguments)
         fprintf(stderr, "usage: show PRODUCT [ENTRY RECORD]\n");
         return 2;
     }
-    if (count == 4 && !(read_number(arguments[2], &entry) && read_number(arguments[3], &record))) {
+    if (count == 4 && !(read_number("show", arguments[2], &entry) && read_number("show", arguments[3], &record))) {
         return 2;
     }
-    int status = show_product(arguments[1], entry, record);
-    if (fclose(stdout) != 0) {
-        perror("show: standard output");
-        return 2;
-    }
-    return status;
+    return closed_output("show", show_product(arguments[1], entry, record));
 }

@@ -15,7 +15,7 @@
  *     lengths     count elements, not bytes; a room may be longer than its answer.
  *     null        no pointer may be null, not even where its length is 0: lend any address, as that of a local.
  *     overlap     no room may overlap the product or another room.
- *     alignment   words as uint64_t, point as double; product, texts and bytes need none.
+ *     alignment   words as uint64_t, point and model as double; product, texts and bytes need none.
  *     threads     a call knows nothing but its arguments: any number may run at once, on one product too, as long as
  *                 nobody writes to the product or uses a lent room meanwhile.
  *     stack       a call takes less than AMBROTHEL_STACK bytes of it, and no other memory. It calls memcpy and memset
@@ -34,8 +34,8 @@ extern "C" {
 /* This boundary's version, 10000 * major + 100 * minor + patch: a new major where an answer's words change their
  * places or it takes more room, or a call its parameters; a new minor where something else is added; a new patch
  * where a rule judges otherwise. 10001: refusal 11 counts no empty sets. 20000: a directory has ranks, and takes 772
- * words for 644. */
-#define AMBROTHEL_VERSION 20000
+ * words for 644. 20100: residual extinction, refusals 22 to 24. */
+#define AMBROTHEL_VERSION 20100
 
 /* What a call returns. */
 #define AMBROTHEL_WRITTEN 0
@@ -52,6 +52,8 @@ extern "C" {
 #define AMBROTHEL_HEADER_TEXTS 289
 #define AMBROTHEL_DIRECTORY_WORDS 772
 #define AMBROTHEL_DIRECTORY_TEXTS 11520
+#define AMBROTHEL_EXTINCTION_WORDS 11
+#define AMBROTHEL_EXTINCTION_DOUBLES 1
 
 /* How much stack a call takes at most, in bytes. */
 #define AMBROTHEL_STACK 65536
@@ -92,7 +94,10 @@ enum ambrothel_refusal {
     AMBROTHEL_REFUSED_RECORD = 18,
     AMBROTHEL_REFUSED_KIND = 19,
     AMBROTHEL_REFUSED_FIELD = 20,
-    AMBROTHEL_REFUSED_POINT = 21
+    AMBROTHEL_REFUSED_POINT = 21,
+    AMBROTHEL_REFUSED_EXTINCTION_SET = 22,
+    AMBROTHEL_REFUSED_PIXEL = 23,
+    AMBROTHEL_REFUSED_QUALITY = 24
 };
 
 /* When the refusal of a number is given: one line of English without its end, for every number. */
@@ -121,7 +126,10 @@ static inline const char *ambrothel_refusal_text(uint64_t number)
         "the record asked for is not there",
         "the kind of field is unknown",
         "the field passes the record's end",
-        "latitude or longitude is outside its limits"
+        "latitude or longitude is outside its limits",
+        "not exactly one entry of type M is named EXT_MDS, or its DSR_SIZE is not 25,709",
+        "the pixel asked for is 2,336 or more",
+        "the record's quality is -1: it is empty"
     };
     return number < sizeof texts / sizeof texts[0] ? texts[number] : "no refusal has this number";
 }
@@ -279,6 +287,27 @@ enum {
 uint32_t ambrothel_point_at(const uint8_t *product, size_t length, size_t entry, size_t record, size_t latitude,
                             size_t longitude, size_t altitude, uint64_t *words, size_t words_length, double *point,
                             size_t point_length);
+
+/* How many pixels a record of residual extinction has: 0 to AMBROTHEL_EXTINCTION_PIXELS - 1. */
+#define AMBROTHEL_EXTINCTION_PIXELS 2336
+
+/* Where a pixel's answer has what. */
+enum {
+    AMBROTHEL_EXTINCTION_DAYS = 3,          /* the record's time: days from 1 January 2000, with their sign */
+    AMBROTHEL_EXTINCTION_SECONDS = 4,
+    AMBROTHEL_EXTINCTION_MICROSECONDS = 5,
+    AMBROTHEL_EXTINCTION_QUALITY = 6,       /* the record's quality, with its sign; never -1 */
+    AMBROTHEL_EXTINCTION_TRANSMISSION = 7,  /* the 32 bits of a float, as they stand in the product */
+    AMBROTHEL_EXTINCTION_COVARIANCE = 8,    /* the same */
+    AMBROTHEL_EXTINCTION_MODEL_CODE = 9,    /* 0 to 65,535 */
+    AMBROTHEL_EXTINCTION_FLAG = 10,         /* of the model: 0 where it is valid */
+    AMBROTHEL_EXTINCTION_MODEL = 0          /* model[MODEL]: twice the code by 65,535, from 0 to 2 */
+};
+
+/* A pixel of a record of GOMOS residual extinction: of the one entry of type M named EXT_MDS, whose records are of
+ * 25,709 bytes. The model is 0 beside a refusal. */
+uint32_t ambrothel_extinction_at(const uint8_t *product, size_t length, size_t record, size_t pixel, uint64_t *words,
+                                 size_t words_length, double *model, size_t model_length);
 
 #ifdef __cplusplus
 }

@@ -1,31 +1,39 @@
--- Theorems over the call: whatever results its promise allows.
+-- Theorems over the call, from its promise alone: whatever results it allows.
 -- Assumes nothing.
 use Prim.Native.Nat.{ℕ, _+_, _*_, _≤_, _<_}
-use mathlib.Core.Bool.{Bool, true, false}
-use mathlib.Core.List.{List, [], _∷_}
+use mathlib.Core.Bool.{Bool, true, false, not}
+use mathlib.Core.List.{List}
+use mathlib.Core.Logic.{_⊎_, inl, inr}
 use mathlib.Core.Path.{_≡_, refl, sym, ap, _∙_}
 use native.Mathlib.Omega.{arith}
-use lib.Dec.{T, leb, ltb, ltb→lt, le→leb}
+use lib.Dec.{T, ltb, ltb→lt, eqb}
 use lib.IntN.{pos, negsuc}
-use lib.Ieee.{binary64, ofInt}
 use lib.ListN.{length, getD}
-use borrow.Author.Tests.{le-leb}
-use Rattle.layout.specs.Bytes.{within, byteAt, unsignedAt, signedAt, member}
-use Rattle.layout.specs.Answer.{Answer, accepted, refused, none, need, Reply, refusal, is}
-use Rattle.layout.specs.Entries.{Entry, directory, at}
+use borrow.Author.Tests.{le-leb, le-ltb}
+use Rattle.layout.specs.Bytes.{within, signedAt}
+use Rattle.layout.specs.Text.{whole}
+use Rattle.layout.specs.Answer.{Answer, accepted, refused, none, need, Reply, refusal, is, _orElse_, _else_, _before_}
+use Rattle.layout.specs.Search.{count}
+use Rattle.layout.specs.Entries.{Entry, eqZ, directory, at, nonEmpty}
+use Rattle.layout.specs.States.{statesOf}
 use Rattle.layout.specs.Rules.{verdict}
-use Rattle.layout.specs.Records.{recordRefusal}
-use Rattle.layout.specs.Fields.{Value, integer, single, time, shapeOf, bytesOf, valueAt, recordOf, endsIn, fieldRefusal, fieldIn, fieldReply}
+use Rattle.layout.specs.Records.{lengths, recordRefusal}
+use Rattle.layout.specs.Fields.{integer, single, time, shapeOf, bytesOf, valueAt, recordOf, endsIn, fieldRefusal, fieldIn, fieldReply}
 use Rattle.layout.specs.Answers.{timeAt}
-use Rattle.layout.specs.declared.Refusal.{Refusal}
-use Rattle.layout.proofs.Laws.{orElse-accepts, need-accepts}
-use Rattle.layout.proofs.Replies.{else-is, before-is}
+use Rattle.layout.proofs.Laws.{accepted≢refused, orElse-accepts, need-accepts}
+use Rattle.layout.proofs.Tests.{is-true}
+use Rattle.layout.proofs.Replies.{NumberedReply, else-is, else-refusal, before-is, refusal≢is}
+use Rattle.layout.proofs.Sound.{sound, no-records}
 use Rattle.layout.proofs.Maps.{refusals}
+use Rattle.fields.proofs.Distance.{unsigned-below}
+use Rattle.product.proofs.Numbers.{verdict-number}
+use Rattle.product.proofs.Points.{record-bytes}
 use Rattle.extinction.specs.declared.Pixel.{Pixel}
 use Rattle.extinction.specs.declared.PixelAnswer.{PixelAnswer}
 use Rattle.extinction.specs.declared.PixelAnswer.the-variants as answers
-use Rattle.extinction.specs.Extinction.{extinctionEntry, setRefusal, singleAt, modelOf, pixelOf, pixelRefusal, pixelIn, measurementRefusal, pixelReply, pixelAnswerIs}
-use Rattle.extinction.proofs.Measured.{record-long}
+use Rattle.extinction.specs.Extinction.{isExtinctionAt, extinctionEntry, setRefusal, singleAt, modelOf, pixelOf, pixelRefusal, pixelIn, measurementRefusal, pixelReply, pixelAnswerIs}
+use Rattle.extinction.proofs.Measured.{inside, only-18, record-long}
+use Rattle.extinction.proofs.Model.{ModelClose, model-close}
 
 -- ---- two results are equal
 
@@ -38,3 +46,158 @@ one-answer (answers.Is p) (answers.Is q) h = ap answers.Is (cc)
 
 pub one-pixel : (b : List ℕ) (j pixel : ℕ) (x y : PixelAnswer) → pixelAnswerIs x ≡ pixelReply b j pixel → pixelAnswerIs y ≡ pixelReply b j pixel → x ≡ y
 one-pixel b j pixel x y h k = one-answer x y (h ∙ sym k)
+
+-- ---- which refusals arise
+
+-- a product's own, 18, and 22 to 24: so 17, 19, 20 and 21 do not
+abbrev pub Arises : ℕ → Type 0
+Arises n = ((1 ≤ n) × (n ≤ 16)) ⊎ ((n ≡ 18) ⊎ ((22 ≤ n) × (n ≤ 24)))
+
+abbrev Arising : Answer → Type 0
+Arising a = (n p e : ℕ) → a ≡ refused n p e → Arises n
+
+need-arising : (t : Bool) (k p e : ℕ) → Arises k → Arising (need t k p e)
+need-arising true k p e a n q d h = absurd (accepted≢refused h)
+need-arising false k p e a n q d h = let s : k ≡ n = cc in rw s at a
+
+orElse-arising : (a c : Answer) → Arising a → (a ≡ accepted → Arising c) → Arising (a orElse c)
+orElse-arising accepted c f g n p e h = g refl n p e h
+orElse-arising (refused m q d) c f g n p e h = f n p e h
+
+two-arising : (t u : Bool) (k p e m q d : ℕ) → Arises k → Arises m → Arising (need t k p e orElse need u m q d)
+two-arising t u k p e m q d a c = orElse-arising (need t k p e) (need u m q d) (need-arising t k p e a) (λ h. need-arising u m q d c)
+
+from-22 : (n : ℕ) → 22 ≤ n → n ≤ 24 → Arises n
+from-22 n l u = inr (inr (l, u))
+
+set-arises : (ds : List Entry) → Arising (setRefusal ds)
+unfolding setRefusal
+set-arises ds =
+    two-arising (eqb (count (isExtinctionAt ds) 0 (length ds)) 1) (eqZ (whole (at ds (extinctionEntry ds) .recordSize)) (pos 25709)) 22 0 none 22 0 none
+    (from-22 22 (omega arith) (omega arith)) (from-22 22 (omega arith) (omega arith))
+
+pixel-arises : (r : List ℕ) (i pixel : ℕ) → Arising (pixelRefusal r i pixel)
+unfolding pixelRefusal
+pixel-arises r i pixel =
+    two-arising (ltb pixel 2336) (not (eqZ (signedAt r 12 1) (negsuc 0))) 23 pixel i 24 12 i (from-22 23 (omega arith) (omega arith)) (from-22 24 (omega arith) (omega arith))
+
+before-refusal : {A : Type 0} (a : Answer) (r : Reply A) (n p e : ℕ) → (a before r) ≡ refusal n p e → (a ≡ refused n p e) ⊎ (r ≡ refusal n p e)
+before-refusal accepted r n p e h = inr h
+before-refusal (refused m q d) r n p e h = inl (cc)
+
+module _ (b : List ℕ) (j pixel : ℕ) where
+  measurement-arises : Arising (measurementRefusal b j)
+  unfolding measurementRefusal
+  measurement-arises =
+      let ds = directory b in
+      let i = extinctionEntry ds in
+      orElse-arising (verdict b) (setRefusal ds orElse recordRefusal b i j) (λ n p e h. inl (verdict-number b n p e h))
+      (λ a. orElse-arising (setRefusal ds) (recordRefusal b i j) (set-arises ds)
+      (λ s. rw (only-18 b a s j) (need-arising (ltb j (length (lengths (statesOf b ds) (at ds i)))) 18 0 i (inr (inl refl)))))
+
+  pub refused-so : (n p e : ℕ) → pixelReply b j pixel ≡ refusal n p e → Arises n
+  unfolding pixelReply pixelIn
+  refused-so n p e h = go (before-refusal (measurementRefusal b j) _ n p e h)
+    where
+      i : ℕ
+      i = extinctionEntry (directory b)
+
+      go : (measurementRefusal b j ≡ refused n p e) ⊎ ((pixelRefusal (recordOf b i j) i pixel else pixelOf (recordOf b i j) pixel) ≡ refusal n p e) → Arises n
+      go (inl q) = measurement-arises n p e q
+      go (inr q) = pixel-arises (recordOf b i j) i pixel n p e (else-refusal (pixelRefusal (recordOf b i j) i pixel) (pixelOf (recordOf b i j) pixel) n p e q)
+
+  -- none is 0, and none above 24
+  pub pixel-number : NumberedReply 24 (pixelReply b j pixel)
+  pixel-number n p e h = go (refused-so n p e h)
+    where
+      go : Arises n → (1 ≤ n) × (n ≤ 24)
+      go (inl a) = (a .0, omega (arith, a .1))
+      go (inr (inl a)) = (omega arith, omega arith)
+      go (inr (inr a)) = (omega (arith, a .0), a .1)
+
+-- ---- an empty set
+
+-- where the set passes 22 and has no byte, every record is 18
+pub empty-set : (b : List ℕ) (j pixel : ℕ) → verdict b ≡ accepted → setRefusal (directory b) ≡ accepted → nonEmpty (at (directory b) (extinctionEntry (directory b))) ≡ false
+    → pixelReply b j pixel ≡ refusal 18 0 (extinctionEntry (directory b))
+unfolding pixelReply measurementRefusal
+empty-set b j pixel a s h =
+    let i = extinctionEntry (directory b) in
+    let l = inside b a s in
+    let m = sound b a .headed in
+    rw (a, s, only-18 b a s j, no-records (at (directory b) i) (m .numbers i l) (m .typed i l) h (statesOf b (directory b)), le-ltb j 0 (omega arith))
+
+-- ---- what is answered
+
+-- a field whose bytes are there
+field-there : (b : List ℕ) (i j off kind : ℕ) → recordRefusal b i j ≡ accepted → T (within 1 9 kind) → off + bytesOf (shapeOf kind) ≤ length (recordOf b i j)
+    → fieldReply b i j off kind ≡ is (valueAt (recordOf b i j) off (shapeOf kind))
+unfolding fieldReply fieldIn fieldRefusal endsIn
+field-there b i j off kind h k l = rw (h, is-true (within 1 9 kind) k, le-leb (off + bytesOf (shapeOf kind)) (length (recordOf b i j)) l)
+
+-- each value is what `field_at` answers at its place: the kinds are 9 mjd, 1 sc, 7 fl, 4 us and 2 uc
+pub record AsFields (b : List ℕ) (i j pixel : ℕ) (x : Pixel) : Type 0 where
+  pub timed : fieldReply b i j 0 9 ≡ is (time (x .time .days) (x .time .seconds) (x .time .microseconds))
+  pub judged : fieldReply b i j 12 1 ≡ is (integer (x .quality))
+  pub transmitted : fieldReply b i j (13 + 4 * pixel) 7 ≡ is (single (x .transmission .value) (x .transmission .bits))
+  pub varied : fieldReply b i j (9357 + 4 * pixel) 7 ≡ is (single (x .covariance .value) (x .covariance .bits))
+  pub coded : fieldReply b i j (18701 + 2 * pixel) 4 ≡ is (integer (pos (x .«model_code»)))
+  pub flagged : fieldReply b i j (23373 + pixel) 2 ≡ is (integer (pos (x .flag)))
+  pub modelled : x .model ≡ modelOf (x .«model_code»)
+
+module _ (b : List ℕ) (j pixel : ℕ) (answer : PixelAnswer) (promise : pixelAnswerIs answer ≡ pixelReply b j pixel) (x : Pixel) (given : answer ≡ answers.Is x) where
+  abbrev i : ℕ
+  i = extinctionEntry (directory b)
+
+  abbrev r : List ℕ
+  r = recordOf b i j
+
+  reply-is : pixelReply b j pixel ≡ is x
+  unfolding pixelAnswerIs
+  reply-is = sym promise ∙ ap pixelAnswerIs given
+
+  parts : (measurementRefusal b j ≡ accepted) × (pixelIn r i pixel ≡ is x)
+  unfolding pixelReply
+  parts = before-is (measurementRefusal b j) (pixelIn r i pixel) x reply-is
+
+  accepts : (verdict b ≡ accepted) × ((setRefusal (directory b) ≡ accepted) × (recordRefusal b i j ≡ accepted))
+  unfolding measurementRefusal
+  accepts = simp orElse-accepts at (parts .0)
+
+  read : (pixelRefusal r i pixel ≡ accepted) × (pixelOf r pixel ≡ x)
+  unfolding pixelIn
+  read = else-is (pixelRefusal r i pixel) (pixelOf r pixel) x (parts .1)
+
+  pub pixel-there : pixel < 2336
+  unfolding pixelRefusal
+  pixel-there = ltb→lt pixel 2336 ((simp (orElse-accepts, need-accepts) at (read .0)) .0)
+
+  long : length r ≡ 25709
+  long = record-long b (accepts .0) (accepts .1 .0) j (accepts .1 .1)
+
+  of-record : AsFields b i j pixel (pixelOf r pixel)
+  unfolding pixelOf timeAt singleAt shapeOf bytesOf valueAt
+  of-record =
+      let l = long in
+      let u = pixel-there in
+      record {
+        timed = field-there b i j 0 9 (accepts .1 .1) tt (omega arith);
+        judged = field-there b i j 12 1 (accepts .1 .1) tt (omega arith);
+        transmitted = field-there b i j (13 + 4 * pixel) 7 (accepts .1 .1) tt (omega arith);
+        varied = field-there b i j (9357 + 4 * pixel) 7 (accepts .1 .1) tt (omega arith);
+        coded = field-there b i j (18701 + 2 * pixel) 4 (accepts .1 .1) tt (omega arith);
+        flagged = field-there b i j (23373 + pixel) 2 (accepts .1 .1) tt (omega arith);
+        modelled = refl;
+      }
+
+  pub as-fields : AsFields b i j pixel x
+  as-fields = rw (read .1) at of-record
+
+  -- of a product, whose elements are bytes: n is the model times 2^67, a whole number, and |65535 n - c 2^68| ≤ 65535 x 2^14
+  module _ (bytes : (k : ℕ) → getD b k 0 < 256) where
+    code-below : x .«model_code» < 65536
+    unfolding pixelOf
+    code-below = rw (← read .1) (unsigned-below r (record-bytes b bytes i j) (18701 + 2 * pixel) 2)
+
+    pub pixel-close : ModelClose (x .model) (x .«model_code»)
+    pixel-close = rw (as-fields .modelled) (model-close (x .«model_code») code-below)

@@ -19,7 +19,7 @@ use Rattle.quotient.proofs.Close.{Close}
 use Rattle.quotient.proofs.Theorems.{degrees-close, metres-close}
 
 -- the big-endian number of w bytes is below 256 ^ w
-unsigned-below : (r : List ℕ) → ((k : ℕ) → getD r k 0 < 256) → (at w : ℕ) → unsignedAt r at w < 256 ^ w
+pub unsigned-below : (r : List ℕ) → ((k : ℕ) → getD r k 0 < 256) → (at w : ℕ) → unsignedAt r at w < 256 ^ w
 unfolding unsignedAt byteAt
 unsigned-below r bytes at zero = omega arith
 unsigned-below r bytes at (suc w) = rw add-one at (next-lt (unsignedAt r at w) (getD r (at + w) 0) w (unsigned-below r bytes at w) (bytes (at + w)))

@@ -20,7 +20,7 @@ use Rattle.quotient.proofs.Close.{Close}
 use Rattle.fields.proofs.Distance.{point-in-close}
 
 module _ (b : List ℕ) (bytes : (k : ℕ) → getD b k 0 < 256) (i j : ℕ) where
-  record-bytes : (k : ℕ) → getD (recordOf b i j) k 0 < 256
+  pub record-bytes : (k : ℕ) → getD (recordOf b i j) k 0 < 256
   unfolding recordOf recordPart
   record-bytes =
       let e = at (directory b) i in

@@ -3,6 +3,7 @@ ghost use mathlib.Core.Path.{_≡_};
 ghost use lib.ListN.{length};
 use crate::entries::ENTRIES;
 use crate::entries::show_entries;
+use crate::pixels::show_first_records;
 use crate::printing::print_part;
 use crate::printing::print_text;
 use crate::printing::print_words;
@@ -57,5 +58,6 @@ pub fn show_product(p: &[u8]) -> bool {
         && show_header(p)
         && show_sph_place(p)
         && show_sph_part(p)
+        && show_first_records(p)
         && show_all_records(p, &words)
 }

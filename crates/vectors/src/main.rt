@@ -7,6 +7,7 @@ ghost use lib.ListN.{length};
 
 mod calls;
 mod entries;
+mod pixels;
 mod printing;
 mod records;
 

@@ -39,8 +39,8 @@ fn show_fields(p: &[u8], entry: usize, asked: usize) -> bool {
     true
 }
 
-// The bits of a double; a point has no NaN, which would have none.
-fn bits_of(x: f64) -> u64 {
+// The bits of a double; a point or a model is no NaN, which would have none.
+pub fn bits_of(x: f64) -> u64 {
     if x == x { f64::to_bits(x) } else { 0 }
 }
 
