@@ -299,17 +299,80 @@ static void check_point(void)
     CHECK(is_refused(AMBROTHEL_REFUSED_POINT, 4, 0) && point[AMBROTHEL_POINT_LATITUDE] == 0);
 }
 
+static double model[AMBROTHEL_EXTINCTION_DOUBLES];
+
+static int ask_pixel(size_t record, size_t pixel)
+{
+    return ambrothel_extinction_at(product, length, record, pixel, words, AMBROTHEL_EXTINCTION_WORDS, model,
+                                   AMBROTHEL_EXTINCTION_DOUBLES) == AMBROTHEL_WRITTEN;
+}
+
+/* Values that are all different, for pixel 5 of the sample's one record, which begins here. */
+static void put_pixel(uint8_t *record)
+{
+    static const uint8_t head[13] = {0xff, 0xff, 0xff, 0xfe, 0, 0, 0, 3, 0, 0, 0, 4, 0xfb};
+    static const uint8_t transmission[4] = {0x7f, 0x80, 0, 6}, covariance[4] = {0xff, 0xc0, 0, 7}, code[2] = {0xff, 0xff};
+    memcpy(record, head, sizeof head);
+    memcpy(record + 13 + 4 * 5, transmission, sizeof transmission);
+    memcpy(record + 9357 + 4 * 5, covariance, sizeof covariance);
+    memcpy(record + 18701 + 2 * 5, code, sizeof code);
+    record[23373 + 5] = 8;
+}
+
+static void check_pixel(void)
+{
+    CHECK(ask_pixel(0, 5) && is_answered());
+    CHECK((int64_t)words[AMBROTHEL_EXTINCTION_DAYS] == -2 && words[AMBROTHEL_EXTINCTION_SECONDS] == 3);
+    CHECK(words[AMBROTHEL_EXTINCTION_MICROSECONDS] == 4 && (int64_t)words[AMBROTHEL_EXTINCTION_QUALITY] == -5);
+    CHECK(words[AMBROTHEL_EXTINCTION_TRANSMISSION] == 0x7f800006 && words[AMBROTHEL_EXTINCTION_COVARIANCE] == 0xffc00007);
+    CHECK(words[AMBROTHEL_EXTINCTION_MODEL_CODE] == 65535 && words[AMBROTHEL_EXTINCTION_FLAG] == 8);
+    CHECK(model[AMBROTHEL_EXTINCTION_MODEL] == 2);
+    CHECK(ambrothel_extinction_at(product, length, 0, 5, words, AMBROTHEL_EXTINCTION_WORDS - 1, model, 1) ==
+          AMBROTHEL_ROOM_TOO_SHORT);
+    CHECK(ambrothel_extinction_at(product, length, 0, 5, words, AMBROTHEL_EXTINCTION_WORDS, model, 0) ==
+          AMBROTHEL_ROOM_TOO_SHORT);
+}
+
+/* The lowest of 22, 18, 23 and 24 in this order, where all that come later are there too. */
+static void check_pixel_refusals(uint8_t *record, uint8_t *name)
+{
+    record[12] = 0xff;
+    CHECK(ask_pixel(0, 5) && is_refused(AMBROTHEL_REFUSED_QUALITY, 12, 2));
+    CHECK(model[AMBROTHEL_EXTINCTION_MODEL] == 0 && words[AMBROTHEL_EXTINCTION_DAYS] == 0);
+    CHECK(ask_pixel(0, AMBROTHEL_EXTINCTION_PIXELS) && is_refused(AMBROTHEL_REFUSED_PIXEL, AMBROTHEL_EXTINCTION_PIXELS, 2));
+    CHECK(ask_pixel(1, AMBROTHEL_EXTINCTION_PIXELS) && is_refused(AMBROTHEL_REFUSED_RECORD, 0, 2));
+    *name = 'F';
+    CHECK(ask_pixel(1, AMBROTHEL_EXTINCTION_PIXELS) &&
+          is_refused(AMBROTHEL_REFUSED_EXTINCTION_SET, 0, AMBROTHEL_NO_ENTRY));
+}
+
+static void check_extinction(const char *folder)
+{
+    size_t place;
+    uint8_t *name = product + MAIN_HEADER;
+    read_sample(folder, "built-GOM_EXT_2P");
+    CHECK(ambrothel_record_place(product, length, 2, 0, words, AMBROTHEL_PLACE_WORDS) == AMBROTHEL_WRITTEN);
+    CHECK(is_answered() && words[AMBROTHEL_PLACE_LENGTH] == 25709);
+    place = (size_t)words[AMBROTHEL_PLACE_START];
+    while (memcmp(name, "EXT_MDS ", 8) != 0) {
+        CHECK(++name < product + place);
+    }
+    put_pixel(product + place);
+    check_pixel();
+    check_pixel_refusals(product + place, name);
+}
+
 /* Each number has a text of its own, and a number that is no refusal's has one too. */
 static void check_texts(void)
 {
     uint64_t number, lower;
-    for (number = AMBROTHEL_NOT_REFUSED; number <= AMBROTHEL_REFUSED_POINT + 1; number++) {
+    for (number = AMBROTHEL_NOT_REFUSED; number <= AMBROTHEL_REFUSED_QUALITY + 1; number++) {
         CHECK(ambrothel_refusal_text(number)[0] != '\0');
         for (lower = 0; lower < number; lower++) {
             CHECK(strcmp(ambrothel_refusal_text(number), ambrothel_refusal_text(lower)) != 0);
         }
     }
-    CHECK(strcmp(ambrothel_refusal_text(UINT64_MAX), ambrothel_refusal_text(AMBROTHEL_REFUSED_POINT + 1)) == 0);
+    CHECK(strcmp(ambrothel_refusal_text(UINT64_MAX), ambrothel_refusal_text(AMBROTHEL_REFUSED_QUALITY + 1)) == 0);
     CHECK(strcmp(ambrothel_refusal_text(AMBROTHEL_REFUSED_TOT_SIZE), "TOT_SIZE is not the length") == 0);
 }
 
@@ -327,6 +390,7 @@ int main(int count, char **arguments)
     check_records(arguments[1]);
     check_fields();
     check_point();
-    printf("all nine calls answer as the samples say, version %d\n", AMBROTHEL_VERSION);
+    check_extinction(arguments[1]);
+    printf("all ten calls answer as the samples say, version %d\n", AMBROTHEL_VERSION);
     return 0;
 }

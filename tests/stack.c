@@ -12,7 +12,7 @@
 #include <ucontext.h>
 
 #define ROOM 65536
-#define CALLS 9
+#define CALLS 10
 #define PATTERN 0xa5
 
 static uint8_t product[ROOM];
@@ -37,7 +37,8 @@ static void call(void)
     case 5: ambrothel_record_place(product, length, 0, 0, words, room); break;
     case 6: ambrothel_record_part(product, length, 0, 0, words, room, bytes, ROOM); break;
     case 7: ambrothel_field_at(product, length, 0, 0, 0, AMBROTHEL_KIND_MJD, words, room); break;
-    default: ambrothel_point_at(product, length, 0, 0, 0, 4, 8, words, room, point, AMBROTHEL_POINT_DOUBLES);
+    case 8: ambrothel_point_at(product, length, 0, 0, 0, 4, 8, words, room, point, AMBROTHEL_POINT_DOUBLES); break;
+    default: ambrothel_extinction_at(product, length, 0, 0, words, room, point, AMBROTHEL_POINT_DOUBLES);
     }
 }
 

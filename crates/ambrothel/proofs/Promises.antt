@@ -21,6 +21,10 @@ use Rattle.words.specs.Words.{verdictWords, placeWords, fieldWords, pointWords}
 use Rattle.words.specs.Headers.{headerWords, directoryWords}
 use Rattle.words.specs.Lent.{OneRoom, TwoRooms}
 use Rattle.words.specs.Rooms.{PointRooms}
+use Rattle.extinction.specs.Extinction.{pixelReply}
+use Rattle.extinction.proofs.Promises.{pixel-number}
+use Rattle.extinction_words.specs.PixelWords.{pixelWords, PixelRooms}
+use Rattle.extinction_words.proofs.Answers.{pixel-eleven}
 use Rattle.ambrothel.specs.Calls.{DirectoryCall, HeaderCall}
 use Rattle.words.proofs.Lengths.{verdict-three, place-five, field-seven, point-three}
 use Rattle.words.proofs.Results.{room-word, first-room-word}
@@ -77,6 +81,11 @@ module _ (b : List ℕ) (d : ℕ) where
     unfolding pointWords
     point-zero lat lon alt = reply-zero pointWords d (λ n p e. refl) (λ x. refl) (pointReply b i j lat lon alt) (point-number b i j lat lon alt)
 
+  -- of a pixel
+  pub pixel-zero : (j pixel : ℕ) → (getD (pixelWords (pixelReply b j pixel)) 0 d ≡ 0) ↔ Given (pixelReply b j pixel)
+  unfolding pixelWords
+  pixel-zero j pixel = reply-zero pixelWords d (λ n p e. refl) (λ x. refl) (pixelReply b j pixel) (pixel-number b j pixel)
+
 -- ---- the first word of a room, where the call returns 0
 
 module _ {P : Type 0} (d : ℕ) (answer old new : List ℕ) (some : 0 < length answer) (zero : (getD answer 0 d ≡ 0) ↔ P) where
@@ -122,3 +131,7 @@ module _ (b : List ℕ) (d : ℕ) (words words′ : List ℕ) where
     -- where there is a point
     pub point-word : (lat lon alt : ℕ) (point point′ : List Float) → PointRooms (pointReply b i j lat lon alt) words words′ point point′ 0 → (getD words′ 0 d ≡ 0) ↔ Given (pointReply b i j lat lon alt)
     point-word lat lon alt point point′ = in-first d (pointWords (pointReply b i j lat lon alt)) words words′ (rw (point-three (pointReply b i j lat lon alt)) (omega arith)) (point-zero b d i j lat lon alt)
+
+  -- where there is a pixel
+  pub pixel-word : (j pixel : ℕ) (model model′ : List Float) → PixelRooms (pixelReply b j pixel) words words′ model model′ 0 → (getD words′ 0 d ≡ 0) ↔ Given (pixelReply b j pixel)
+  pixel-word j pixel model model′ = in-first d (pixelWords (pixelReply b j pixel)) words words′ (rw (pixel-eleven (pixelReply b j pixel)) (omega arith)) (pixel-zero b d j pixel)

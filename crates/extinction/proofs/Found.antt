@@ -1,19 +1,20 @@
 -- The set that is found in the arrays of a directory is the one that refusal 22 asks for.
 -- Assumes nothing.
-use Prim.Native.Nat.{ℕ, _≤_, _<_}
+use Prim.Native.Nat.{ℕ, _*_, _≤_, _<_}
 use mathlib.Core.Bool.{Bool, true, false, cond, _&&_}
 use mathlib.Core.List.{List}
-use mathlib.Core.Path.{_≡_, refl, sym, _∙_}
+use mathlib.Core.Path.{_≡_, refl, _∙_}
 use native.Mathlib.Omega.{arith}
 use lib.Dec.{eqb, ltb}
 use lib.IntN.{ℤ, pos}
 use lib.ListN.{length, getD}
-use borrow.Author.Tests.{lt-ltb, le-ltb, eqb-true}
+use borrow.Author.Tests.{lt-ltb, le-ltb, ne-eqb, eqb-true}
+use Rattle.layout.specs.Bytes.{bytes, part}
 use Rattle.layout.specs.Text.{whole}
 use Rattle.layout.specs.Answer.{accepted, refused, none, need, _orElse_}
 use Rattle.layout.specs.Search.{count, find, only}
-use Rattle.layout.specs.Entries.{Entry, eqZ, at}
-use Rattle.layout.specs.Answers.{typeOf, recordSizeOf, directoryOf}
+use Rattle.layout.specs.Entries.{Entry, eqZ, at, called}
+use Rattle.layout.specs.Answers.{typeOf, recordSizeOf, nameAt, directoryOf}
 use Rattle.layout.specs.declared.Directory.{Directory}
 use Rattle.layout.proofs.Laws.{find-bounds, eqZ-T}
 use Rattle.layout.proofs.Tests.{is-false, counted-once}
@@ -24,6 +25,15 @@ use Rattle.extinction.specs.Extinction.{isExtinction, isExtinctionAt, ex
 use Rattle.extinction.specs.Found.{isExtinctionIn, extinctionIn}
 
 -- ---- in the arrays of any directory
+
+module _ (types names : List ℕ) (i : ℕ) where
+  pub another-type : (getD types i 0 ≡ 77 → ⊥) → false ≡ isExtinctionIn types names i
+  unfolding isExtinctionIn
+  another-type h = rw (ne-eqb (getD types i 0) 77 h)
+
+  pub of-type-M : getD types i 0 ≡ 77 → called (part names (28 * i) 28) (bytes "EXT_MDS") ≡ isExtinctionIn types names i
+  unfolding isExtinctionIn nameAt
+  of-type-M h = rw h
 
 only-most : (t : ℕ → Bool) (n : ℕ) → only t n ≤ n
 unfolding only

@@ -1,21 +1,21 @@
 -- The records of the set: each has 25,709 bytes, and the only refusal of one is 18.
 -- Assumes nothing.
-use Prim.Native.Nat.{ℕ, _+_, _≤_, _<_}
+use Prim.Native.Nat.{ℕ, _<_}
 use mathlib.Core.Bool.{Bool, true, false, _&&_}
 use mathlib.Core.List.{List, []}
 use mathlib.Core.Path.{_≡_, refl, sym, ap, _∙_}
 use native.Mathlib.Omega.{arith}
-use lib.Dec.{ltb, ltb→lt, eqb, eqb→eq}
-use lib.IntN.{pos, negsuc}
+use lib.Dec.{ltb, ltb→lt, eqb→eq}
+use lib.IntN.{pos}
 use lib.Signed.{ltZ}
-use lib.ListN.{length, take, drop, replicate, length-drop, getD-replicate, length-replicate}
+use lib.ListN.{length, drop, replicate, length-drop, getD-replicate, length-replicate}
 use lib.Seq.{length-take-le}
 use borrow.Author.Tests.{lt-ltb}
 use Rattle.layout.specs.Bytes.{part}
 use Rattle.layout.specs.Text.{whole}
 use Rattle.layout.specs.Answer.{accepted, refused, need}
 use Rattle.layout.specs.Search.{count}
-use Rattle.layout.specs.Entries.{Entry, eqZ, directory, at, kindOf, isVariable}
+use Rattle.layout.specs.Entries.{Entry, directory, at, isVariable}
 use Rattle.layout.specs.States.{State, statesOf}
 use Rattle.layout.specs.Rules.{verdict}
 use Rattle.layout.specs.Records.{lengths, recordAt, recordLength, recordPart, recordRefusal, recordPlace, partOf}

@@ -6,13 +6,13 @@ use mathlib.Core.List.{List}
 use mathlib.Core.Logic.{_⊎_, inl, inr}
 use mathlib.Core.Path.{_≡_, refl, sym, ap, _∙_}
 use native.Mathlib.Omega.{arith}
-use lib.Dec.{T, ltb, ltb→lt, eqb}
-use lib.IntN.{pos, negsuc}
+use lib.Dec.{T, ltb, eqb}
+use lib.IntN.{pos}
 use lib.ListN.{length, getD}
 use borrow.Author.Tests.{le-leb, le-ltb}
-use Rattle.layout.specs.Bytes.{within, signedAt}
+use Rattle.layout.specs.Bytes.{within}
 use Rattle.layout.specs.Text.{whole}
-use Rattle.layout.specs.Answer.{Answer, accepted, refused, none, need, Reply, refusal, is, _orElse_, _else_, _before_}
+use Rattle.layout.specs.Answer.{Answer, accepted, refused, none, need, Reply, refusal, is, _orElse_, _before_}
 use Rattle.layout.specs.Search.{count}
 use Rattle.layout.specs.Entries.{Entry, eqZ, directory, at, nonEmpty}
 use Rattle.layout.specs.States.{statesOf}
@@ -20,9 +20,9 @@ use Rattle.layout.specs.Rules.{verdict}
 use Rattle.layout.specs.Records.{lengths, recordRefusal}
 use Rattle.layout.specs.Fields.{integer, single, time, shapeOf, bytesOf, valueAt, recordOf, endsIn, fieldRefusal, fieldIn, fieldReply}
 use Rattle.layout.specs.Answers.{timeAt}
-use Rattle.layout.proofs.Laws.{accepted≢refused, orElse-accepts, need-accepts}
+use Rattle.layout.proofs.Laws.{accepted≢refused, orElse-accepts}
 use Rattle.layout.proofs.Tests.{is-true}
-use Rattle.layout.proofs.Replies.{NumberedReply, else-is, else-refusal, before-is, refusal≢is}
+use Rattle.layout.proofs.Replies.{NumberedReply, before-is, refusal≢is}
 use Rattle.layout.proofs.Sound.{sound, no-records}
 use Rattle.layout.proofs.Maps.{refusals}
 use Rattle.fields.proofs.Distance.{unsigned-below}
@@ -31,7 +31,8 @@ use Rattle.product.proofs.Points.{record-bytes}
 use Rattle.extinction.specs.declared.Pixel.{Pixel}
 use Rattle.extinction.specs.declared.PixelAnswer.{PixelAnswer}
 use Rattle.extinction.specs.declared.PixelAnswer.the-variants as answers
-use Rattle.extinction.specs.Extinction.{isExtinctionAt, extinctionEntry, setRefusal, singleAt, modelOf, pixelOf, pixelRefusal, pixelIn, measurementRefusal, pixelReply, pixelAnswerIs}
+use Rattle.extinction.specs.Extinction.{isExtinctionAt, extinctionEntry, setRefusal, singleAt, modelOf, pixelOf, pixelIn, measurementRefusal, pixelReply, pixelAnswerIs}
+use Rattle.extinction.proofs.Pixels.{Answered, past, empty, given, answered}
 use Rattle.extinction.proofs.Measured.{inside, only-18, record-long}
 use Rattle.extinction.proofs.Model.{ModelClose, model-close}
 
@@ -76,10 +77,13 @@ set-arises ds =
     two-arising (eqb (count (isExtinctionAt ds) 0 (length ds)) 1) (eqZ (whole (at ds (extinctionEntry ds) .recordSize)) (pos 25709)) 22 0 none 22 0 none
     (from-22 22 (omega arith) (omega arith)) (from-22 22 (omega arith) (omega arith))
 
-pixel-arises : (r : List ℕ) (i pixel : ℕ) → Arising (pixelRefusal r i pixel)
-unfolding pixelRefusal
-pixel-arises r i pixel =
-    two-arising (ltb pixel 2336) (not (eqZ (signedAt r 12 1) (negsuc 0))) 23 pixel i 24 12 i (from-22 23 (omega arith) (omega arith)) (from-22 24 (omega arith) (omega arith))
+pixel-arises : (r : List ℕ) (i pixel n p e : ℕ) → pixelIn r i pixel ≡ refusal n p e → Arises n
+pixel-arises r i pixel n p e h = go (answered r i pixel)
+  where
+    go : Answered r i pixel → Arises n
+    go (past l q) = let s : 23 ≡ n = cc in from-22 n (omega arith) (omega arith)
+    go (empty l w q) = let s : 24 ≡ n = cc in from-22 n (omega arith) (omega arith)
+    go (given l w q) = absurd (refusal≢is n p e (pixelOf r pixel) (sym h ∙ q))
 
 before-refusal : {A : Type 0} (a : Answer) (r : Reply A) (n p e : ℕ) → (a before r) ≡ refusal n p e → (a ≡ refused n p e) ⊎ (r ≡ refusal n p e)
 before-refusal accepted r n p e h = inr h
@@ -96,15 +100,15 @@ module _ (b : List ℕ) (j pixel : ℕ) where
       (λ s. rw (only-18 b a s j) (need-arising (ltb j (length (lengths (statesOf b ds) (at ds i)))) 18 0 i (inr (inl refl)))))
 
   pub refused-so : (n p e : ℕ) → pixelReply b j pixel ≡ refusal n p e → Arises n
-  unfolding pixelReply pixelIn
-  refused-so n p e h = go (before-refusal (measurementRefusal b j) _ n p e h)
+  unfolding pixelReply
+  refused-so n p e h = go (before-refusal (measurementRefusal b j) (pixelIn (recordOf b i j) i pixel) n p e h)
     where
       i : ℕ
       i = extinctionEntry (directory b)
 
-      go : (measurementRefusal b j ≡ refused n p e) ⊎ ((pixelRefusal (recordOf b i j) i pixel else pixelOf (recordOf b i j) pixel) ≡ refusal n p e) → Arises n
+      go : (measurementRefusal b j ≡ refused n p e) ⊎ (pixelIn (recordOf b i j) i pixel ≡ refusal n p e) → Arises n
       go (inl q) = measurement-arises n p e q
-      go (inr q) = pixel-arises (recordOf b i j) i pixel n p e (else-refusal (pixelRefusal (recordOf b i j) i pixel) (pixelOf (recordOf b i j) pixel) n p e q)
+      go (inr q) = pixel-arises (recordOf b i j) i pixel n p e q
 
   -- none is 0, and none above 24
   pub pixel-number : NumberedReply 24 (pixelReply b j pixel)
@@ -145,7 +149,7 @@ pub record AsFields (b : List ℕ) (i j pixel : ℕ) (x : Pixel) : Type 0 where
   pub flagged : fieldReply b i j (23373 + pixel) 2 ≡ is (integer (pos (x .flag)))
   pub modelled : x .model ≡ modelOf (x .«model_code»)
 
-module _ (b : List ℕ) (j pixel : ℕ) (answer : PixelAnswer) (promise : pixelAnswerIs answer ≡ pixelReply b j pixel) (x : Pixel) (given : answer ≡ answers.Is x) where
+module _ (b : List ℕ) (j pixel : ℕ) (answer : PixelAnswer) (promise : pixelAnswerIs answer ≡ pixelReply b j pixel) (x : Pixel) (shown : answer ≡ answers.Is x) where
   abbrev i : ℕ
   i = extinctionEntry (directory b)
 
@@ -154,7 +158,7 @@ module _ (b : List ℕ) (j pixel : ℕ) (answer : PixelAnswer) (promise : pixelA
 
   reply-is : pixelReply b j pixel ≡ is x
   unfolding pixelAnswerIs
-  reply-is = sym promise ∙ ap pixelAnswerIs given
+  reply-is = sym promise ∙ ap pixelAnswerIs shown
 
   parts : (measurementRefusal b j ≡ accepted) × (pixelIn r i pixel ≡ is x)
   unfolding pixelReply
@@ -164,13 +168,13 @@ module _ (b : List ℕ) (j pixel : ℕ) (answer : PixelAnswer) (promise : pixelA
   unfolding measurementRefusal
   accepts = simp orElse-accepts at (parts .0)
 
-  read : (pixelRefusal r i pixel ≡ accepted) × (pixelOf r pixel ≡ x)
-  unfolding pixelIn
-  read = else-is (pixelRefusal r i pixel) (pixelOf r pixel) x (parts .1)
-
-  pub pixel-there : pixel < 2336
-  unfolding pixelRefusal
-  pixel-there = ltb→lt pixel 2336 ((simp (orElse-accepts, need-accepts) at (read .0)) .0)
+  read : (pixel < 2336) × (pixelOf r pixel ≡ x)
+  read = go (answered r i pixel)
+    where
+      go : Answered r i pixel → (pixel < 2336) × (pixelOf r pixel ≡ x)
+      go (past l q) = absurd (refusal≢is 23 pixel i x (sym q ∙ parts .1))
+      go (empty l w q) = absurd (refusal≢is 24 12 i x (sym q ∙ parts .1))
+      go (given l w q) = (l, cc (parts .1))
 
   long : length r ≡ 25709
   long = record-long b (accepts .0) (accepts .1 .0) j (accepts .1 .1)
@@ -179,7 +183,7 @@ module _ (b : List ℕ) (j pixel : ℕ) (answer : PixelAnswer) (promise : pixelA
   unfolding pixelOf timeAt singleAt shapeOf bytesOf valueAt
   of-record =
       let l = long in
-      let u = pixel-there in
+      let u = read .0 in
       record {
         timed = field-there b i j 0 9 (accepts .1 .1) tt (omega arith);
         judged = field-there b i j 12 1 (accepts .1 .1) tt (omega arith);

@@ -4,30 +4,27 @@ use Prim.Native.Nat.{ℕ, zero, suc, _-_, _≤_, _<_}
 use mathlib.Core.Bool.{Bool, true, false, cond}
 use mathlib.Core.Logic.{inl, inr}
 use mathlib.Core.Path.{_≡_, refl, sym, ap, _∙_, subst}
-use mathlib.Core.List.{List, [], _∷_, map}
+use mathlib.Core.List.{List, [], _∷_}
 use native.Mathlib.Omega.{arith}
 use lib.Dec.{T, eqb, ltb, eqb→eq}
 use lib.IntN.{ℤ, pos, negℤ}
 use lib.Signed.{_≤ℤ_}
-use lib.ListN.{length, drop, replicate, length-map, length-drop}
-use lib.Seq.{length-take-le}
+use lib.ListN.{length}
 use borrow.Author.Tests.{eqb-false}
-use Rattle.layout.specs.Bytes.{bytes, part}
-use Rattle.layout.specs.Text.{Number, whole, lineClasses, valueClasses, valueWidth, quoteWidth, placeOf, widthOf, valueOf}
-use Rattle.layout.specs.Lines.{dsd}
+use Rattle.layout.specs.Bytes.{bytes}
+use Rattle.layout.specs.Text.{Number, whole}
 use Rattle.layout.specs.Answer.{Answer, accepted, refused}
-use Rattle.layout.specs.Search.{join}
-use Rattle.layout.specs.Entries.{Entry, headersEnd, entries, dsdsAt, dsdAt, dsdBytes, entryOf, directory, at, isData, start, extent}
+use Rattle.layout.specs.Entries.{Entry, directory, at, isData, start, extent}
 use Rattle.layout.specs.Rules.{verdict}
 use Rattle.layout.specs.Order.{rankOf}
 use Rattle.layout.specs.Listing.{decimal, signedDecimal, trimmed, lineOf, entryLine, acceptedLines, listingFor, listing}
-use Rattle.layout.specs.Answers.{padded, typeOf, nameOf, countOf, recordSizeOf, directoryOf, directoryFor, noDirectory}
+use Rattle.layout.specs.Answers.{typeOf, countOf, recordSizeOf, directoryOf, directoryFor, noDirectory}
 use Rattle.layout.proofs.Padded.{padded-at}
 use Rattle.layout.proofs.Names.{name-same, name-width}
 use Rattle.layout.proofs.Types.{Typed}
 use Rattle.layout.specs.Faults.{NumbersFit}
 use Rattle.layout.proofs.Tests.{data-T}
-use Rattle.layout.proofs.Sound.{Sound, sound, length-directory, at-directory, entry-at, last-of-four}
+use Rattle.layout.proofs.Sound.{sound, last-of-four}
 use Rattle.layout.proofs.Agree.{map-upto-same}
 use Rattle.layout.proofs.Ranks.{answered}
 use Rattle.listing_text.specs.declared.Listed.{Listed}

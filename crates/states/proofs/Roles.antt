@@ -1,21 +1,19 @@
 -- The tests of a role, and the searches by them.
 -- Assumes nothing.
-use Prim.Native.Nat.{ℕ, suc, _+_, _*_, _-_, _≤_, _<_}
-use mathlib.Core.Bool.{Bool, true, false, not}
+use Prim.Native.Nat.{ℕ, _+_, _*_, _-_, _≤_, _<_}
+use mathlib.Core.Bool.{true, false, not}
 use mathlib.Core.List.{List}
-use mathlib.Core.Path.{_≡_, sym, _∙_}
+use mathlib.Core.Path.{_≡_, sym}
 use native.Mathlib.Omega.{arith}
-use native.Mathlib.Nat.{zero-add}
-use native.Mathlib.Numerals.{add-one}
 use lib.Dec.{ltb, eqb}
 use lib.ListN.{getD}
 use borrow.Author.Tests.{eq-eqb, ne-eqb, lt-ltb, le-ltb, lt-leb, le-leb}
 use Rattle.layout.specs.Answer.{accepted, refused}
 use Rattle.layout.specs.Search.{count, find}
-use Rattle.layout.proofs.Laws.{find-bounds, count-none, count-found}
+use Rattle.layout.proofs.Laws.{find-bounds}
 use Rattle.directory.specs.declared.Sets.{Sets}
 use Rattle.states.specs.declared.Tally.{Tally}
-use Rattle.states.specs.Roles.{roleWithin, onlyStates, unfilled, unfilledAt, rule16By, describedBy}
+use Rattle.states.specs.Roles.{unfilled, unfilledAt, rule16By, describedBy}
 use Rattle.states.proofs.Sums.{within-in, within-below, within-above}
 
 pub above : (n : ℕ) → (n ≡ 0 → ⊥) → 0 < n

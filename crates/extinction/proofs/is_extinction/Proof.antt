@@ -1,9 +1,7 @@
 -- `extinction::is_extinction` meets its contract. Assumes nothing.
-use mathlib.Core.Path.{sym, _∙_}
+use mathlib.Core.Path.{_∙_}
 use borrow.Author.Needs.{needs}
-use borrow.Author.Tests.{eq-eqb, ne-eqb}
-use Rattle.layout.specs.Answers.{nameAt}
-use Rattle.extinction.specs.Found.{isExtinctionIn}
+use Rattle.extinction.proofs.Found.{another-type, of-type-M}
 use Rattle.extinction.proofs.is_extinction.Statement.{statement}
 use Rattle.extinction.proofs.is_extinction.Tie as tie
 
@@ -11,8 +9,7 @@ shared-slice-read-if1 : tie.Need-shared-slice-read-if1
 shared-slice-read-if1 c = search needs
 
 returns : tie.Need-returns
-unfolding isExtinctionIn
-returns c = rw (ne-eqb _ _ (c .if1 .taken))
+returns c = another-type _ _ _ (c .if1 .taken)
 
 mul-is-called : tie.Need-mul-is-called
 mul-is-called c = search needs
@@ -24,8 +21,7 @@ is-called-requires : tie.Need-is-called-requires
 is-called-requires c κs = search needs
 
 returns-2 : tie.Need-returns-2
-unfolding isExtinctionIn nameAt
-returns-2 c = rw (eq-eqb _ _ (c .before .before .if1 .left)) (c .is-called .ensures)
+returns-2 c = c .is-called .ensures ∙ of-type-M _ _ _ (c .before .before .if1 .left)
 
 pub is-extinction-spec : {M : Type 1} → statement M
 is-extinction-spec =
