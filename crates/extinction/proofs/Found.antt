@@ -12,13 +12,13 @@ use borrow.Author.Tests.{lt-ltb, le-ltb, ne-eqb, eqb-true}
 use Rattle.layout.specs.Bytes.{bytes, part}
 use Rattle.layout.specs.Text.{whole}
 use Rattle.layout.specs.Answer.{accepted, refused, none, need, _orElse_}
-use Rattle.layout.specs.Search.{count, find, only}
+use Rattle.layout.specs.Search.{count, only}
 use Rattle.layout.specs.Entries.{Entry, eqZ, at, called}
 use Rattle.layout.specs.Answers.{typeOf, recordSizeOf, nameAt, directoryOf}
 use Rattle.layout.specs.declared.Directory.{Directory}
-use Rattle.layout.proofs.Laws.{find-bounds, eqZ-T}
+use Rattle.layout.proofs.Laws.{eqZ-T}
 use Rattle.layout.proofs.Tests.{is-false, counted-once}
-use Rattle.layout.proofs.Only.{only-same}
+use Rattle.layout.proofs.Only.{only-same, only-most}
 use Rattle.layout.proofs.Padded.{padded-at}
 use Rattle.layout.proofs.Names.{name-same}
 use Rattle.extinction.specs.Extinction.{isExtinction, isExtinctionAt, extinctionEntry, setRefusal}
@@ -34,14 +34,6 @@ module _ (types names : List ℕ) (i : ℕ) where
   pub of-type-M : getD types i 0 ≡ 77 → called (part names (28 * i) 28) (bytes "EXT_MDS") ≡ isExtinctionIn types names i
   unfolding isExtinctionIn nameAt
   of-type-M h = rw h
-
-only-most : (t : ℕ → Bool) (n : ℕ) → only t n ≤ n
-unfolding only
-only-most t n = go (eqb (count t 0 n) 1)
-  where
-    go : (x : Bool) → cond x (find t 0 n) n ≤ n
-    go true = omega (arith, find-bounds t 0 n .1)
-    go false = omega arith
 
 module _ (d : Directory) (i : ℕ) (here : i ≡ only (isExtinctionIn (d .types) (d .names)) (d .entries)) where
   pub none-found : i ≡ d .entries → 128 ≡ extinctionIn d

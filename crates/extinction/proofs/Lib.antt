@@ -4,3 +4,4 @@ mod Measured
 mod Calls
 pub mod Promises
 pub mod Model
+pub mod Cases

@@ -1,7 +1,7 @@
 -- Theorems over the call, from its promise alone: whatever results it allows.
 -- Assumes nothing.
 use Prim.Native.Nat.{ℕ, _+_, _*_, _≤_, _<_}
-use mathlib.Core.Bool.{Bool, true, false, not}
+use mathlib.Core.Bool.{Bool, false, not}
 use mathlib.Core.List.{List}
 use mathlib.Core.Logic.{_⊎_, inl, inr}
 use mathlib.Core.Path.{_≡_, refl, sym, ap, _∙_}
@@ -12,7 +12,7 @@ use lib.ListN.{length, getD}
 use borrow.Author.Tests.{le-leb, le-ltb}
 use Rattle.layout.specs.Bytes.{within}
 use Rattle.layout.specs.Text.{whole}
-use Rattle.layout.specs.Answer.{Answer, accepted, refused, none, need, Reply, refusal, is, _orElse_, _before_}
+use Rattle.layout.specs.Answer.{accepted, refused, none, need, refusal, is, _orElse_, _before_}
 use Rattle.layout.specs.Search.{count}
 use Rattle.layout.specs.Entries.{Entry, eqZ, directory, at, nonEmpty}
 use Rattle.layout.specs.States.{statesOf}
@@ -20,9 +20,9 @@ use Rattle.layout.specs.Rules.{verdict}
 use Rattle.layout.specs.Records.{lengths, recordRefusal}
 use Rattle.layout.specs.Fields.{integer, single, time, shapeOf, bytesOf, valueAt, recordOf, endsIn, fieldRefusal, fieldIn, fieldReply}
 use Rattle.layout.specs.Answers.{timeAt}
-use Rattle.layout.proofs.Laws.{accepted≢refused, orElse-accepts}
+use Rattle.layout.proofs.Laws.{orElse-accepts}
 use Rattle.layout.proofs.Tests.{is-true}
-use Rattle.layout.proofs.Replies.{NumberedReply, before-is, refusal≢is}
+use Rattle.layout.proofs.Replies.{Told, NumberedReply, need-told, orElse-told, before-is, before-refusal, refusal≢is}
 use Rattle.layout.proofs.Sound.{sound, no-records}
 use Rattle.layout.proofs.Maps.{refusals}
 use Rattle.fields.proofs.Distance.{unsigned-below}
@@ -54,27 +54,16 @@ one-pixel b j pixel x y h k = one-answer x y (h ∙ sym k)
 abbrev pub Arises : ℕ → Type 0
 Arises n = ((1 ≤ n) × (n ≤ 16)) ⊎ ((n ≡ 18) ⊎ ((22 ≤ n) × (n ≤ 24)))
 
-abbrev Arising : Answer → Type 0
-Arising a = (n p e : ℕ) → a ≡ refused n p e → Arises n
-
-need-arising : (t : Bool) (k p e : ℕ) → Arises k → Arising (need t k p e)
-need-arising true k p e a n q d h = absurd (accepted≢refused h)
-need-arising false k p e a n q d h = let s : k ≡ n = cc in rw s at a
-
-orElse-arising : (a c : Answer) → Arising a → (a ≡ accepted → Arising c) → Arising (a orElse c)
-orElse-arising accepted c f g n p e h = g refl n p e h
-orElse-arising (refused m q d) c f g n p e h = f n p e h
-
-two-arising : (t u : Bool) (k p e m q d : ℕ) → Arises k → Arises m → Arising (need t k p e orElse need u m q d)
-two-arising t u k p e m q d a c = orElse-arising (need t k p e) (need u m q d) (need-arising t k p e a) (λ h. need-arising u m q d c)
+two-told : (t u : Bool) (k p e m q d : ℕ) → Arises k → Arises m → Told Arises (need t k p e orElse need u m q d)
+two-told t u k p e m q d a c = orElse-told Arises (need t k p e) (need u m q d) (need-told Arises t k p e a) (λ h. need-told Arises u m q d c)
 
 from-22 : (n : ℕ) → 22 ≤ n → n ≤ 24 → Arises n
 from-22 n l u = inr (inr (l, u))
 
-set-arises : (ds : List Entry) → Arising (setRefusal ds)
+set-arises : (ds : List Entry) → Told Arises (setRefusal ds)
 unfolding setRefusal
 set-arises ds =
-    two-arising (eqb (count (isExtinctionAt ds) 0 (length ds)) 1) (eqZ (whole (at ds (extinctionEntry ds) .recordSize)) (pos 25709)) 22 0 none 22 0 none
+    two-told (eqb (count (isExtinctionAt ds) 0 (length ds)) 1) (eqZ (whole (at ds (extinctionEntry ds) .recordSize)) (pos 25709)) 22 0 none 22 0 none
     (from-22 22 (omega arith) (omega arith)) (from-22 22 (omega arith) (omega arith))
 
 pixel-arises : (r : List ℕ) (i pixel n p e : ℕ) → pixelIn r i pixel ≡ refusal n p e → Arises n
@@ -85,19 +74,15 @@ pixel-arises r i pixel n p e h = go (answered r i pixel)
     go (empty l w q) = let s : 24 ≡ n = cc in from-22 n (omega arith) (omega arith)
     go (given l w q) = absurd (refusal≢is n p e (pixelOf r pixel) (sym h ∙ q))
 
-before-refusal : {A : Type 0} (a : Answer) (r : Reply A) (n p e : ℕ) → (a before r) ≡ refusal n p e → (a ≡ refused n p e) ⊎ (r ≡ refusal n p e)
-before-refusal accepted r n p e h = inr h
-before-refusal (refused m q d) r n p e h = inl (cc)
-
 module _ (b : List ℕ) (j pixel : ℕ) where
-  measurement-arises : Arising (measurementRefusal b j)
+  measurement-arises : Told Arises (measurementRefusal b j)
   unfolding measurementRefusal
   measurement-arises =
       let ds = directory b in
       let i = extinctionEntry ds in
-      orElse-arising (verdict b) (setRefusal ds orElse recordRefusal b i j) (λ n p e h. inl (verdict-number b n p e h))
-      (λ a. orElse-arising (setRefusal ds) (recordRefusal b i j) (set-arises ds)
-      (λ s. rw (only-18 b a s j) (need-arising (ltb j (length (lengths (statesOf b ds) (at ds i)))) 18 0 i (inr (inl refl)))))
+      orElse-told Arises (verdict b) (setRefusal ds orElse recordRefusal b i j) (λ n p e h. inl (verdict-number b n p e h))
+      (λ a. orElse-told Arises (setRefusal ds) (recordRefusal b i j) (set-arises ds)
+      (λ s. rw (only-18 b a s j) (need-told Arises (ltb j (length (lengths (statesOf b ds) (at ds i)))) 18 0 i (inr (inl refl)))))
 
   pub refused-so : (n p e : ℕ) → pixelReply b j pixel ≡ refusal n p e → Arises n
   unfolding pixelReply

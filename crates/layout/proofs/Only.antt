@@ -1,7 +1,7 @@
 -- The only number that passes, by two searches: the first that passes, and a second one behind it.
 -- Assumes nothing.
-use Prim.Native.Nat.{ℕ, suc, _+_, _-_, _<_}
-use mathlib.Core.Bool.{Bool, false}
+use Prim.Native.Nat.{ℕ, suc, _+_, _-_, _≤_, _<_}
+use mathlib.Core.Bool.{Bool, true, false, cond}
 use mathlib.Core.Path.{_≡_, sym, _∙_}
 use native.Mathlib.Omega.{arith}
 use native.Mathlib.Nat.{zero-add}
@@ -18,6 +18,14 @@ two-or-more n = ne-eqb (suc (suc n)) 1 (λ e. omega arith)
 pub only-same : (t u : ℕ → Bool) (n : ℕ) → ((k : ℕ) → k < n → t k ≡ u k) → only t n ≡ only u n
 unfolding only
 only-same t u n h = rw (count-same t u 0 n (λ k l m. h k (omega arith)), find-same t u 0 n (λ k l m. h k (omega arith)))
+
+pub only-most : (t : ℕ → Bool) (n : ℕ) → only t n ≤ n
+unfolding only
+only-most t n = go (eqb (count t 0 n) 1)
+  where
+    go : (x : Bool) → cond x (find t 0 n) n ≤ n
+    go true = omega (arith, find-bounds t 0 n .1)
+    go false = omega arith
 
 module _ (t : ℕ → Bool) (n : ℕ) where
   -- there is none

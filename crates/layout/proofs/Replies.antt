@@ -2,6 +2,7 @@
 -- Assumes nothing.
 use Prim.Native.Nat.{ℕ, _≤_}
 use mathlib.Core.Bool.{Bool, true, false}
+use mathlib.Core.Logic.{_⊎_, inl, inr}
 use mathlib.Core.Path.{_≡_, refl, sym, _∙_}
 use native.Mathlib.Omega.{arith}
 use Rattle.layout.specs.Answer.{Answer, accepted, refused, need, Reply, refusal, is, _orElse_, _else_, _before_}
@@ -40,27 +41,50 @@ module _ {A : Type 0} where
   before-is accepted r y h = (refl, h)
   before-is (refused n p e) r y h = absurd (refusal≢is n p e y h)
 
--- ---- the number of a refusal is from 1 to `most`
+  pub before-refusal : (a : Answer) (r : Reply A) (n p e : ℕ) → (a before r) ≡ refusal n p e → (a ≡ refused n p e) ⊎ (r ≡ refusal n p e)
+  before-refusal accepted r n p e h = inr h
+  before-refusal (refused m q d) r n p e h = inl (cc)
+
+-- ---- the number of a refusal: what is so of it
+
+abbrev pub Told : (ℕ → Type 0) → Answer → Type 0
+Told P a = (n p e : ℕ) → a ≡ refused n p e → P n
+
+module _ (P : ℕ → Type 0) where
+  pub need-told : (t : Bool) (k p e : ℕ) → P k → Told P (need t k p e)
+  need-told true k p e a n q d h = absurd (accepted≢refused h)
+  need-told false k p e a n q d h = let s : k ≡ n = cc in rw s at a
+
+  -- the second is asked where the first accepts
+  pub orElse-told : (a b : Answer) → Told P a → (a ≡ accepted → Told P b) → Told P (a orElse b)
+  orElse-told accepted b f g n p e h = g refl n p e h
+  orElse-told (refused m q d) b f g n p e h = f n p e h
+
+-- ---- it is from 1 to `most`
+
+abbrev pub UpTo : ℕ → ℕ → Type 0
+UpTo most n = (1 ≤ n) × (n ≤ most)
 
 abbrev pub Numbered : ℕ → Answer → Type 0
-Numbered most a = (n p e : ℕ) → a ≡ refused n p e → (1 ≤ n) × (n ≤ most)
+Numbered most = Told (UpTo most)
 
 abbrev pub NumberedReply : {A : Type 0} → ℕ → Reply A → Type 0
-NumberedReply most r = (n p e : ℕ) → r ≡ refusal n p e → (1 ≤ n) × (n ≤ most)
+NumberedReply most r = (n p e : ℕ) → r ≡ refusal n p e → UpTo most n
 
 pub need-numbered : (most : ℕ) (t : Bool) (k p e : ℕ) → 1 ≤ k → k ≤ most → Numbered most (need t k p e)
-need-numbered most true k p e l u n q d h = absurd (accepted≢refused h)
-need-numbered most false k p e l u n q d h = let s : k ≡ n = cc in (omega arith, omega arith)
+need-numbered most t k p e l u = need-told (UpTo most) t k p e (l, u)
 
 -- the first of two answers, of which the first may go less high
 pub orElse-numbered : (less most : ℕ) (a b : Answer) → less ≤ most → Numbered less a → Numbered most b → Numbered most (a orElse b)
-orElse-numbered less most accepted b l f g n p e h = g n p e h
-orElse-numbered less most (refused m q d) b l f g n p e h = let r = f n p e h in (r .0, omega (arith, r .1))
+orElse-numbered less most a b l f g = orElse-told (UpTo most) a b (λ n p e h. (f n p e h .0, omega (arith, f n p e h .1))) (λ h. g)
 
 module _ {A : Type 0} where
   pub else-numbered : (most : ℕ) (a : Answer) (x : A) → Numbered most a → NumberedReply most (a else x)
   else-numbered most a x f n p e h = f n p e (else-refusal a x n p e h)
 
   pub before-numbered : (less most : ℕ) (a : Answer) (r : Reply A) → less ≤ most → Numbered less a → NumberedReply most r → NumberedReply most (a before r)
-  before-numbered less most accepted r l f g n p e h = g n p e h
-  before-numbered less most (refused m q d) r l f g n p e h = let s : refused m q d ≡ refused n p e = cc in let k = f n p e s in (k .0, omega (arith, k .1))
+  before-numbered less most a r l f g n p e h = go (before-refusal a r n p e h)
+    where
+      go : (a ≡ refused n p e) ⊎ (r ≡ refusal n p e) → UpTo most n
+      go (inl q) = (f n p e q .0, omega (arith, f n p e q .1))
+      go (inr q) = g n p e q

@@ -26,6 +26,9 @@ fn lengths_are_those_of_the_header() {
         ("HEADER_TEXTS", words::HEADER_TEXTS),
         ("DIRECTORY_WORDS", words::DIRECTORY_WORDS),
         ("DIRECTORY_TEXTS", words::DIRECTORY_TEXTS),
+        ("EXTINCTION_WORDS", words::EXTINCTION_WORDS),
+        ("EXTINCTION_DOUBLES", words::EXTINCTION_DOUBLES),
+        ("EXTINCTION_PIXELS", twin::PIXELS),
     ] {
         assert_eq!(defined(name), length, "{name}");
     }
