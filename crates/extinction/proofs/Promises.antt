@@ -8,6 +8,7 @@ use mathlib.Core.Path.{_≡_, refl, sym, ap, _∙_}
 use native.Mathlib.Omega.{arith}
 use lib.Dec.{T, ltb, eqb}
 use lib.IntN.{pos}
+use lib.Ieee.{binary64, ofInt}
 use lib.ListN.{length, getD}
 use borrow.Author.Tests.{le-leb, le-ltb}
 use Rattle.layout.specs.Bytes.{within}
@@ -34,7 +35,7 @@ use Rattle.extinction.specs.declared.PixelAnswer.the-variants as answers
 use Rattle.extinction.specs.Extinction.{isExtinctionAt, extinctionEntry, setRefusal, singleAt, modelOf, pixelOf, pixelIn, measurementRefusal, pixelReply, pixelAnswerIs}
 use Rattle.extinction.proofs.Pixels.{Answered, past, empty, given, answered}
 use Rattle.extinction.proofs.Measured.{inside, only-18, record-long}
-use Rattle.extinction.proofs.Model.{ModelClose, model-close}
+use Rattle.extinction.proofs.Model.{ModelClose, model-0, model-65535, model-close}
 
 -- ---- two results are equal
 
@@ -181,6 +182,13 @@ module _ (b : List ℕ) (j pixel : ℕ) (answer : PixelAnswer) (promise : pixelA
 
   pub as-fields : AsFields b i j pixel x
   as-fields = rw (read .1) at of-record
+
+  -- code 0 gives 0, and 65535 gives 2
+  pub code-0 : x .«model_code» ≡ 0 → x .model ≡ ofInt binary64 (pos 0)
+  code-0 h = as-fields .modelled ∙ ap modelOf h ∙ model-0
+
+  pub code-65535 : x .«model_code» ≡ 65535 → x .model ≡ ofInt binary64 (pos 2)
+  code-65535 h = as-fields .modelled ∙ ap modelOf h ∙ model-65535
 
   -- of a product, whose elements are bytes: n is the model times 2^67, a whole number, and |65535 n - c 2^68| ≤ 65535 x 2^14
   module _ (bytes : (k : ℕ) → getD b k 0 < 256) where
