@@ -75,7 +75,8 @@ static void print_field(size_t kind, const uint64_t *words)
 static int show_record(const uint8_t *product, size_t length, size_t entry, size_t record)
 {
     uint64_t place[AMBROTHEL_PLACE_WORDS];
-    if (ambrothel_record_place(product, length, entry, record, place, AMBROTHEL_PLACE_WORDS) || is_refused(place, stdout)) {
+    if (ambrothel_record_place(product, length, entry, record, place, AMBROTHEL_PLACE_WORDS) ||
+        is_refused(place, stdout)) {
         return 1;
     }
     printf("record %zu of entry %zu: %" PRIu64 " bytes at %" PRIu64 "\n", record, entry,

@@ -1,6 +1,6 @@
 -- What the calls of `product` promise, put together to the pixel's reply.
 -- Assumes nothing.
-use Prim.Native.Nat.{ℕ, _<_}
+use Prim.Native.Nat.{ℕ, _≤_}
 use mathlib.Core.Bool.{Bool, true, false}
 use mathlib.Core.List.{List}
 use mathlib.Core.Path.{_≡_, refl, sym, ap, _∙_}
@@ -31,10 +31,10 @@ module _ (b : List ℕ) (j pixel : ℕ) where
     answered : d ≡ directoryOf (directory b)
     answered = listed ∙ rw accepts
 
-    few : length (directory b) < 129
+    few : length (directory b) ≤ 128
     few = omega (arith, length-directory b, accepted-entries b accepts)
 
-    pub few-entries : d .entries < 129
+    pub few-entries : d .entries ≤ 128
     unfolding directoryOf
     few-entries = rw answered few
 
@@ -44,13 +44,13 @@ module _ (b : List ℕ) (j pixel : ℕ) where
 
       pub no-set : i ≡ 128 → refusal 22 0 128 ≡ pixelReply b j pixel
       unfolding pixelReply measurementRefusal
-      no-set h = rw (accepts, found.no-set (directory b) (omega (arith, few)) (name-width b (sound b accepts)) (found-in ∙ h))
+      no-set h = rw (accepts, found.no-set (directory b) few (name-width b (sound b accepts)) (found-in ∙ h))
 
       module _ (there : i ≡ 128 → ⊥) (l : List ℕ) (handed : l ≡ partOf b (recordPlace b i j)) where
         set : (setRefusal (directory b) ≡ accepted) × (i ≡ extinctionEntry (directory b))
-        set = let r = found.the-set (directory b) (omega (arith, few)) (name-width b (sound b accepts)) (λ h. there (sym found-in ∙ h)) in (r .0, sym found-in ∙ r .1)
+        set = let r = found.the-set (directory b) few (name-width b (sound b accepts)) (λ h. there (sym found-in ∙ h)) in (r .0, sym found-in ∙ r .1)
 
-        -- the record is there and has its bytes, or is refused 18 and has none
+        -- the record is there, is what was handed out, and has its bytes
         abbrev Handed : Type 0
         Handed = ((recordRefusal b i j ≡ accepted) × ((l ≡ recordOf b i j) × (length l ≡ 25709)))
 

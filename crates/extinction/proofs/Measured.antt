@@ -39,7 +39,7 @@ module _ (b : List ℕ) (i j : ℕ) where
 
 -- ---- records of the set
 
--- records of a size of 1 or more are equal
+-- where the record size has no minus, records are equal
 equal-records : (e : Entry) (m : ℕ) → whole (e .recordSize) ≡ pos m → isVariable e ≡ false
 unfolding isVariable
 equal-records e m h = rw h (go (ltZ (pos 0) (whole (e .size))))
@@ -72,7 +72,7 @@ module _ (b : List ℕ) (accepts : verdict b ≡ accepted) (one : setRefusal (di
   unfolding lengths
   all-equal = rw (equal-records (at ds i) 25709 (tests .1), magnitude-is (at ds i .recordSize) 25709 (tests .1))
 
-  -- the product's own, 17 and 22 do not arise: 18 alone
+  -- once the product is accepted and the set found, a record is refused by 18 alone
   pub only-18 : (j : ℕ) → recordRefusal b i j ≡ need (ltb j (length (lengths ss (at ds i)))) 18 0 i
   unfolding recordRefusal
   only-18 j = rw (accepts, lt-ltb i (length ds) inside)

@@ -1,7 +1,6 @@
 -- `extinction::pixel_at` meets its contract, by the promises of the calls alone.
 -- Assumes nothing.
 use mathlib.Core.Path.{_∙_}
-use native.Mathlib.Omega.{arith}
 use Rattle.layout.proofs.Replies.{told-refused, told-accepted}
 use Rattle.extinction.specs.Extinction.{pixelAnswerIs}
 use Rattle.extinction.proofs.Calls.{refused-product, few-entries, no-set, handed-out, no-record, reads}
@@ -28,7 +27,7 @@ extinction-entry-requires : tie.Need-extinction-entry-requires
 extinction-entry-requires c κs =
     let opened = c .before .before .before .open-directory in
     let accepts = told-accepted (opened .result .verdict) _ (c .before .enum-told .given .1) (opened .ensures .0) in
-    omega (arith, few-entries _ 0 0 accepts (opened .result .directory) (opened .ensures .1))
+    few-entries _ 0 0 accepts (opened .result .directory) (opened .ensures .1)
 
 refuse-requires : tie.Need-refuse-requires
 refuse-requires c κs = search needs
