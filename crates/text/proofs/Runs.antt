@@ -68,6 +68,10 @@ module _ (t : ℕ → Bool) where
   pub skipped-first : (from to : ℕ) → from ≤ to → Skipped t from to from
   skipped-first from to h = record { low = omega arith; high = h; left = refl }
 
+  -- one search behind another
+  pub skipped-on : (from to i r : ℕ) → Skipped t from to i → Skipped t i to r → Skipped t from to r
+  skipped-on from to i r so on = record { low = omega (arith, so .low, on .low); high = on .high; left = so .left ∙ on .left }
+
   module _ (from to i : ℕ) (so : Skipped t from to i) (all : Bool) where
     -- a block from i on
     pub skipped-block : (n : ℕ) → i + n ≤ to → all ≡ not (some t i n) → all ≡ true → Skipped t from to (i + n)
@@ -84,3 +88,8 @@ module _ (t : ℕ → Bool) where
       high = omega arith;
       left = so .left ∙ find-past i to to (so .high) (omega arith) (λ k v w. tested n (to - n) all e g k (omega arith) (omega arith));
     }
+
+  -- a block by itself, then blocks of one width, then of another
+  pub skipped-run : (from to n w r : ℕ) (all : Bool) → from + n ≤ to → all ≡ not (some t from n) → all ≡ true → Skipped t (from + n) to w → Skipped t w to r → Skipped t from to r
+  skipped-run from to n w r all h e g wide narrow =
+      skipped-on from to (from + n) r (skipped-block from to from (skipped-first from to (omega arith)) all n h e g) (skipped-on (from + n) to w r wide narrow)

@@ -10,10 +10,10 @@ use Rattle.text.proofs.blank_blocks.Statement.{statement}
 use Rattle.text.proofs.blank_blocks.Tie as tie
 
 abbrev Inv-loop : tie.InvT-loop
-Inv-loop p from to i₀ i = Skipped (notBlank p) from to i
+Inv-loop p from to block i₀ i = Skipped (notBlank p) from to i
 
 abbrev μ-loop : tie.MeasureT-loop
-μ-loop p from to i₀ i = to - i
+μ-loop p from to block i₀ i = to - i
 
 sub-if1 : tie.Need-sub-if1 Inv-loop μ-loop
 sub-if1 c = omega arith
@@ -40,7 +40,7 @@ loop-less : tie.Need-loop-less Inv-loop μ-loop
 loop-less c = omega arith
 
 loop-again : tie.Need-loop-again Inv-loop μ-loop
-loop-again c = skipped-block _ _ _ _ (c .before .before .before .loop .inv) _ 16 (omega arith) (c .before .blanks-in .ensures) (not-false _ (c .if2 .left))
+loop-again c = skipped-block _ _ _ _ (c .before .before .before .loop .inv) _ _ (omega arith) (c .before .blanks-in .ensures) (not-false _ (c .if2 .left))
 
 sub-blanks-in : tie.Need-sub-blanks-in Inv-loop μ-loop
 sub-blanks-in c = omega arith
@@ -49,7 +49,7 @@ blanks-in-requires-2 : tie.Need-blanks-in-requires-2 Inv-loop μ-loop
 blanks-in-requires-2 c κs = omega arith
 
 returns-3 : tie.Need-returns-3 Inv-loop μ-loop
-returns-3 c = skipped-last _ _ _ _ (c .before .before .before .loop .inv) _ 16 (omega arith) (omega arith) (c .before .blanks-in2 .ensures) (c .if3 .taken)
+returns-3 c = skipped-last _ _ _ _ (c .before .before .before .loop .inv) _ _ (omega arith) (omega arith) (c .before .blanks-in2 .ensures) (c .if3 .taken)
 
 returns-4 : tie.Need-returns-4 Inv-loop μ-loop
 returns-4 c = c .before .before .before .loop .inv

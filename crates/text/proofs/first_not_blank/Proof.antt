@@ -17,11 +17,11 @@ Inv-loop p from to i₀ i = (i ≤ to) × (find (notBlank p) from (to - from) �
 abbrev μ-loop : tie.MeasureT-loop
 μ-loop p from to i₀ i = to - i
 
-blank-blocks-requires : tie.Need-blank-blocks-requires Inv-loop μ-loop
-blank-blocks-requires c κs = search needs
+blank-run-requires : tie.Need-blank-run-requires Inv-loop μ-loop
+blank-run-requires c κs = search needs
 
 loop-holds : tie.Need-loop-holds Inv-loop μ-loop
-loop-holds c = (c .blank-blocks .ensures .high, c .blank-blocks .ensures .left)
+loop-holds c = (c .blank-run .ensures .high, c .blank-run .ensures .left)
 
 shared-slice-read-if1 : tie.Need-shared-slice-read-if1 Inv-loop μ-loop
 shared-slice-read-if1 c = omega arith
@@ -47,7 +47,7 @@ first-not-blank-spec =
     (tie.spec
     Inv-loop
     μ-loop
-    blank-blocks-requires
+    blank-run-requires
     loop-holds
     shared-slice-read-if1
     returns

@@ -19,11 +19,11 @@ Inv-loop p from to i₀ i = (i ≤ to) × (find (fails (fits plain) p) from (to 
 abbrev μ-loop : tie.MeasureT-loop
 μ-loop p from to i₀ i = to - i
 
-plain-blocks-requires : tie.Need-plain-blocks-requires Inv-loop μ-loop
-plain-blocks-requires c κs = search needs
+plain-run-requires : tie.Need-plain-run-requires Inv-loop μ-loop
+plain-run-requires c κs = search needs
 
 loop-holds : tie.Need-loop-holds Inv-loop μ-loop
-loop-holds c = (c .plain-blocks .ensures .high, c .plain-blocks .ensures .left)
+loop-holds c = (c .plain-run .ensures .high, c .plain-run .ensures .left)
 
 shared-slice-read-is-plain : tie.Need-shared-slice-read-is-plain Inv-loop μ-loop
 shared-slice-read-is-plain c = omega arith
@@ -52,7 +52,7 @@ first-not-plain-spec =
     (tie.spec
     Inv-loop
     μ-loop
-    plain-blocks-requires
+    plain-run-requires
     loop-holds
     shared-slice-read-is-plain
     is-plain-requires

@@ -10,10 +10,10 @@ use Rattle.text.proofs.plain_blocks.Statement.{statement}
 use Rattle.text.proofs.plain_blocks.Tie as tie
 
 abbrev Inv-loop : tie.InvT-loop
-Inv-loop p from to i₀ i = Skipped (fails (fits plain) p) from to i
+Inv-loop p from to block i₀ i = Skipped (fails (fits plain) p) from to i
 
 abbrev μ-loop : tie.MeasureT-loop
-μ-loop p from to i₀ i = to - i
+μ-loop p from to block i₀ i = to - i
 
 loop-holds : tie.Need-loop-holds Inv-loop μ-loop
 loop-holds c = skipped-first _ _ _ (omega arith)
@@ -34,7 +34,7 @@ loop-less : tie.Need-loop-less Inv-loop μ-loop
 loop-less c = omega arith
 
 loop-again : tie.Need-loop-again Inv-loop μ-loop
-loop-again c = skipped-block _ _ _ _ (c .before .before .before .loop .inv) _ 16 (omega arith) (c .before .plain-in .ensures) (not-false _ (c .if1 .left))
+loop-again c = skipped-block _ _ _ _ (c .before .before .before .loop .inv) _ _ (omega arith) (c .before .plain-in .ensures) (not-false _ (c .if1 .left))
 
 returns-2 : tie.Need-returns-2 Inv-loop μ-loop
 returns-2 c = c .before .loop .inv
