@@ -1,5 +1,5 @@
 // The check of header lines against the layout of document 01, "Header text": the first byte that is not as laid out.
-// A header whose bytes all lie between the lowest and the highest that may stand at their places, none of them barred there, is as laid out. Any other
+// A header whose bytes all lie between the two ends of what may stand at their places, none of them barred there, is as laid out. Any other
 // goes row by row through a constant table of line start, kind and width, and span by span: the literal bytes from the last value on, and the value. A
 // spare's value is its blanks.
 mod tables;
@@ -8,7 +8,7 @@ use dsd::Entry;
 use layout::Verdict;
 use values::MainHeader;
 ghost use mathlib.Core.Path.{_≡_};
-ghost use Prim.Native.Nat.{_+_, _*_, _-_, _≤_, _<_};
+ghost use Prim.Native.Nat.{_+_, _*_, _-_, _≤_, _<_, min, max};
 ghost use mathlib.Core.Bool.{true, not};
 ghost use lib.Dec.{T, eqb};
 ghost use lib.ListN.{length};
@@ -18,7 +18,7 @@ ghost use Rattle.layout.specs.Answers.{verdictIs};
 ghost use Rattle.layout.specs.Lines.{sizeOfMph, sizeOfDsd, mph, dsd};
 ghost use Rattle.layout.specs.Search.{first, some, laidOut};
 ghost use Rattle.layout.specs.Text.{layout, sign, among, fits, spare, s, sAB, literal, valueClasses, lineClasses};
-ghost use Rattle.lines.specs.Ranges.{misplaced, DsdRanges};
+ghost use Rattle.lines.specs.Ranges.{mayStand, misplaced, DsdRanges};
 ghost use Rattle.lines.specs.Table.{badPlace, valueLaid, widthFits, rowLaid, rowFits, rowOf, tableFits, badByTable, badInDsd, rule8From};
 
 // One row of a table: its value's first byte, kind and width.
@@ -212,45 +212,69 @@ fn lines_check(
     literal_span(p, template, from, template.len())
 }
 
-// The places `from..to` of a header that begins at `at` have bytes between the lowest and the highest that may stand there, none of them barred. They are
-// tested as a whole, without an exit, so that they are tested side by side.
+fn lower(one: u8, other: u8) -> u8
+    ensures { λ r. ⌜ r ≡ min one other ⌝ }
+{
+    if one < other { one } else { other }
+}
+
+fn higher(one: u8, other: u8) -> u8
+    ensures { λ r. ⌜ r ≡ max one other ⌝ }
+{
+    if one < other { other } else { one }
+}
+
+fn may_stand(x: u8, one: u8, other: u8, barred: u8) -> bool
+    ensures { λ r. ⌜ r ≡ mayStand one other barred x ⌝ }
+{
+    ((lower(one, other) <= x) & (x <= higher(one, other))) & (x != barred)
+}
+
+// The places `from..to` of a header that begins at `at` have bytes that may stand there. They are tested as a whole, without an exit, so that they are tested
+// side by side.
 fn laid_in(
     p: &[u8],
     at: usize,
-    lowest: &[u8],
-    highest: &[u8],
+    ones: &[u8],
+    others: &[u8],
     barred: &[u8],
     from: usize,
     to: usize,
 ) -> bool
-    requires { ⌜ (from ≤ to) × (at + to ≤ length (now p)) × (to ≤ length (now lowest)) × (to ≤ length (now highest)) × (to ≤ length (now barred)) ⌝ }
-    ensures { λ r. ⌜ r ≡ not (some (misplaced (now (lowest .entry)) (now (highest .entry)) (now (barred .entry)) (now (p .entry)) at) from (to - from)) ⌝ }
+    requires { ⌜ (from ≤ to) × (at + to ≤ length (now p)) × (to ≤ length (now ones)) × (to ≤ length (now others)) × (to ≤ length (now barred)) ⌝ }
+    ensures { λ r. ⌜ r ≡ not (some (misplaced (now (ones .entry)) (now (others .entry)) (now (barred .entry)) (now (p .entry)) at) from (to - from)) ⌝ }
 {
     let mut all = true;
     let mut i = from;
     while i < to {
-        let x = p[at + i];
-        all = all & (((lowest[i] <= x) & (x <= highest[i])) & (x != barred[i]));
+        all = all & may_stand(p[at + i], ones[i], others[i], barred[i]);
         i += 1;
     }
     all
 }
 
-// The whole main header is as laid out. In parts, each short enough that the compiler unrolls it: then it needs no copy of the tables. The last begins one
-// byte early, so that it too is whole blocks of 16.
+// The whole main header is as laid out. In parts, one after the other, each short enough that the compiler unrolls it and of whole blocks of 16 but for the
+// last: then it reads the tables from the program, and needs no copy of them.
 fn main_header_laid(p: &[u8]) -> bool
     requires { ⌜ sizeOfMph ≤ length (now p) ⌝ }
     ensures { λ r. ⌜ (r ≡ true → sizeOfMph ≡ badPlace (layout mph) (now (p .entry)) 0) ⌝ }
 {
-    let lowest = tables::MPH_LOWEST;
-    let highest = tables::MPH_HIGHEST;
+    let ones = tables::MPH_ONE_END;
+    let others = tables::MPH_OTHER_END;
     let barred = tables::MPH_BARRED;
-    let first = laid_in(p, 0, &lowest, &highest, &barred, 0, 256);
-    let second = laid_in(p, 0, &lowest, &highest, &barred, 256, 512);
-    let third = laid_in(p, 0, &lowest, &highest, &barred, 512, 768);
-    let fourth = laid_in(p, 0, &lowest, &highest, &barred, 768, 1024);
-    let last = laid_in(p, 0, &lowest, &highest, &barred, 1023, MainHeader::SIZE);
-    (first & second) & ((third & fourth) & last)
+    if !laid_in(p, 0, &ones, &others, &barred, 0, 256) {
+        return false;
+    }
+    if !laid_in(p, 0, &ones, &others, &barred, 256, 512) {
+        return false;
+    }
+    if !laid_in(p, 0, &ones, &others, &barred, 512, 768) {
+        return false;
+    }
+    if !laid_in(p, 0, &ones, &others, &barred, 768, 1024) {
+        return false;
+    }
+    laid_in(p, 0, &ones, &others, &barred, 1024, MainHeader::SIZE)
 }
 
 // The first byte of the main header that is not as laid out, or its end, by the rows of its table.
@@ -260,7 +284,7 @@ fn main_header_lines(p: &[u8]) -> usize
 {
     lines_check(
         p,
-        &tables::MPH_LOWEST,
+        &tables::MPH_ONE_END,
         &tables::MPH_STARTS,
         &tables::MPH_KEYS,
         &tables::MPH_KINDS,
@@ -287,7 +311,7 @@ fn dsd_lines(p: &[u8], at: usize) -> usize
     let end = at + Entry::SIZE;
     let bad = lines_check(
         &p[at..end],
-        &tables::DSD_LOWEST,
+        &tables::DSD_ONE_END,
         &tables::DSD_STARTS,
         &tables::DSD_KEYS,
         &tables::DSD_KINDS,
@@ -296,34 +320,52 @@ fn dsd_lines(p: &[u8], at: usize) -> usize
     at + bad
 }
 
-// The same of any DSD, with the ranges of its bytes lent. One whose first byte is a blank is a spare. The type is tested by itself: M, A, G, R are no range.
-fn dsd_check(p: &[u8], at: usize, lowest: &[u8], highest: &[u8], barred: &[u8]) -> usize
-    requires { ⌜ (at + sizeOfDsd ≤ length (now p)) × DsdRanges (now lowest) (now highest) (now barred) ⌝ }
+// The DSD that begins at `at` is as laid out, with the tables lent. In parts, as the main header; the type is tested by itself: M, A, G, R are no range.
+fn dsd_laid(p: &[u8], at: usize, ones: &[u8], others: &[u8], barred: &[u8]) -> bool
+    requires { ⌜ (at + sizeOfDsd ≤ length (now p)) × DsdRanges (now ones) (now others) (now barred) ⌝ }
+    ensures { λ r. ⌜ (r ≡ true → at + sizeOfDsd ≡ badPlace (layout dsd) (now (p .entry)) at) ⌝ }
+{
+    if !is_type(p[at + tables::DSD_TYPE_AT]) {
+        return false;
+    }
+    if !laid_in(p, at, ones, others, barred, 0, 128) {
+        return false;
+    }
+    if !laid_in(p, at, ones, others, barred, 128, 256) {
+        return false;
+    }
+    laid_in(p, at, ones, others, barred, 256, Entry::SIZE)
+}
+
+// The first byte of any DSD that is not as laid out, or its end. One whose first byte is a blank is a spare.
+fn dsd_check(p: &[u8], at: usize, ones: &[u8], others: &[u8], barred: &[u8]) -> usize
+    requires { ⌜ (at + sizeOfDsd ≤ length (now p)) × DsdRanges (now ones) (now others) (now barred) ⌝ }
     ensures { λ r. ⌜ r ≡ badInDsd (now (p .entry)) at ⌝ }
 {
     if p[at] == b' ' {
         return spare_check(p, at, Entry::SIZE - 1);
     }
-    if is_type(p[at + tables::DSD_TYPE_AT]) {
-        if laid_in(p, at, lowest, highest, barred, 0, Entry::SIZE) {
-            return at + Entry::SIZE;
-        }
+    if dsd_laid(p, at, ones, others, barred) {
+        return at + Entry::SIZE;
     }
     dsd_lines(p, at)
 }
 
-// Rule 8 of the `n` DSDs that begin at `from`. The ranges are made once for all.
+// Rule 8 of the `n` DSDs that begin at `from`. The tables are made once for all, and not where there is none.
 pub fn dsds_check(p: &[u8], from: usize, n: usize) -> Verdict
     requires { ⌜ from + sizeOfDsd * n ≤ length (now p) ⌝ }
     ensures { λ r. ⌜ verdictIs r ≡ first (rule8From (now (p .entry)) from) 0 n ⌝ }
 {
-    let lowest = tables::DSD_LOWEST;
-    let highest = tables::DSD_HIGHEST;
+    if n == 0 {
+        return Verdict::Accepted;
+    }
+    let ones = tables::DSD_ONE_END;
+    let others = tables::DSD_OTHER_END;
     let barred = tables::DSD_BARRED;
     let mut i = 0;
     while i < n {
         let at = from + Entry::SIZE * i;
-        let bad = dsd_check(p, at, &lowest, &highest, &barred);
+        let bad = dsd_check(p, at, &ones, &others, &barred);
         if bad != at + Entry::SIZE {
             return Verdict::refuse(8, bad as u64, i);
         }

@@ -152,109 +152,111 @@ pub const MPH_WIDTHS: [u8; 41] = [
     40,
 ];
 
-// The lowest byte that may stand at each place of the main header, the highest, and the one between them that may not: a quote in a text, a comma between
-// + and -. A literal byte is both lowest and highest, so that the lowest bytes are the template of the literal ones too.
-pub const MPH_LOWEST: [u8; MainHeader::SIZE] = *b"\
-    PRODUCT=\"                                                              \"\n\
+// What may stand at each place of the main header: a byte between two ends, either end too, but not the one that is barred. A literal byte is both ends, so
+// that the one ends are the template of the literal bytes as well. A text's ends are a blank and ~, with a quote barred; a digit's are 0 and 9; a sign's + and
+// -, with the comma between them barred; a spare's a blank and !, which is barred. From byte to byte of a value the ends change sides, so that no byte stands
+// four times in a row: out of such a row the compiler makes a store of its own, and then it cannot read the rest of the table from the program.
+pub const MPH_ONE_END: [u8; MainHeader::SIZE] = *b"\
+    PRODUCT=\" ~ ~ ~ ~ ~ ~ ~ ~ ~ ~ ~ ~ ~ ~ ~ ~ ~ ~ ~ ~ ~ ~ ~ ~ ~ ~ ~ ~ ~ ~ ~\"\n\
     PROC_STAGE= \n\
-    REF_DOC=\"                       \"\n\
-    \x20                                       \n\
-    ACQUISITION_STATION=\"                    \"\n\
-    PROC_CENTER=\"      \"\n\
-    PROC_TIME=\"                           \"\n\
-    SOFTWARE_VER=\"              \"\n\
-    \x20                                       \n\
-    SENSING_START=\"                           \"\n\
-    SENSING_STOP=\"                           \"\n\
-    \x20                                       \n\
+    REF_DOC=\" ~ ~ ~ ~ ~ ~ ~ ~ ~ ~ ~ \"\n\
+    \x20! ! ! ! ! ! ! ! ! ! ! ! ! ! ! ! ! ! ! !\n\
+    ACQUISITION_STATION=\" ~ ~ ~ ~ ~ ~ ~ ~ ~ ~\"\n\
+    PROC_CENTER=\" ~ ~ ~\"\n\
+    PROC_TIME=\" ~ ~ ~ ~ ~ ~ ~ ~ ~ ~ ~ ~ ~ \"\n\
+    SOFTWARE_VER=\" ~ ~ ~ ~ ~ ~ ~\"\n\
+    \x20! ! ! ! ! ! ! ! ! ! ! ! ! ! ! ! ! ! ! !\n\
+    SENSING_START=\" ~ ~ ~ ~ ~ ~ ~ ~ ~ ~ ~ ~ ~ \"\n\
+    SENSING_STOP=\" ~ ~ ~ ~ ~ ~ ~ ~ ~ ~ ~ ~ ~ \"\n\
+    \x20! ! ! ! ! ! ! ! ! ! ! ! ! ! ! ! ! ! ! !\n\
     PHASE= \n\
-    CYCLE=+000\n\
-    REL_ORBIT=+00000\n\
-    ABS_ORBIT=+00000\n\
-    STATE_VECTOR_TIME=\"                           \"\n\
-    DELTA_UT1=+.000000<s>\n\
-    X_POSITION=+0000000.000<m>\n\
-    Y_POSITION=+0000000.000<m>\n\
-    Z_POSITION=+0000000.000<m>\n\
-    X_VELOCITY=+0000.000000<m/s>\n\
-    Y_VELOCITY=+0000.000000<m/s>\n\
-    Z_VELOCITY=+0000.000000<m/s>\n\
-    VECTOR_SOURCE=\"  \"\n\
-    \x20                                       \n\
-    UTC_SBT_TIME=\"                           \"\n\
-    SAT_BINARY_TIME=+0000000000\n\
-    CLOCK_STEP=+0000000000<ps>\n\
-    \x20                               \n\
-    LEAP_UTC=\"                           \"\n\
-    LEAP_SIGN=+000\n\
+    CYCLE=+090\n\
+    REL_ORBIT=+09090\n\
+    ABS_ORBIT=+09090\n\
+    STATE_VECTOR_TIME=\" ~ ~ ~ ~ ~ ~ ~ ~ ~ ~ ~ ~ ~ \"\n\
+    DELTA_UT1=+.090909<s>\n\
+    X_POSITION=+0909090.090<m>\n\
+    Y_POSITION=+0909090.090<m>\n\
+    Z_POSITION=+0909090.090<m>\n\
+    X_VELOCITY=+0909.090909<m/s>\n\
+    Y_VELOCITY=+0909.090909<m/s>\n\
+    Z_VELOCITY=+0909.090909<m/s>\n\
+    VECTOR_SOURCE=\" ~\"\n\
+    \x20! ! ! ! ! ! ! ! ! ! ! ! ! ! ! ! ! ! ! !\n\
+    UTC_SBT_TIME=\" ~ ~ ~ ~ ~ ~ ~ ~ ~ ~ ~ ~ ~ \"\n\
+    SAT_BINARY_TIME=+0909090909\n\
+    CLOCK_STEP=+0909090909<ps>\n\
+    \x20! ! ! ! ! ! ! ! ! ! ! ! ! ! ! !\n\
+    LEAP_UTC=\" ~ ~ ~ ~ ~ ~ ~ ~ ~ ~ ~ ~ ~ \"\n\
+    LEAP_SIGN=+090\n\
     LEAP_ERR=0\n\
-    \x20                                       \n\
+    \x20! ! ! ! ! ! ! ! ! ! ! ! ! ! ! ! ! ! ! !\n\
     PRODUCT_ERR=0\n\
-    TOT_SIZE=+00000000000000000000<bytes>\n\
-    SPH_SIZE=+0000000000<bytes>\n\
-    NUM_DSD=+0000000000\n\
-    DSD_SIZE=+0000000000<bytes>\n\
-    NUM_DATA_SETS=+0000000000\n\
-    \x20                                       \n\
+    TOT_SIZE=+09090909090909090909<bytes>\n\
+    SPH_SIZE=+0909090909<bytes>\n\
+    NUM_DSD=+0909090909\n\
+    DSD_SIZE=+0909090909<bytes>\n\
+    NUM_DATA_SETS=+0909090909\n\
+    \x20! ! ! ! ! ! ! ! ! ! ! ! ! ! ! ! ! ! ! !\n\
 ";
 
-pub const MPH_HIGHEST: [u8; MainHeader::SIZE] = *b"\
-    PRODUCT=\"~~~~~~~~~~~~~~~~~~~~~~~~~~~~~~~~~~~~~~~~~~~~~~~~~~~~~~~~~~~~~~\"\n\
+pub const MPH_OTHER_END: [u8; MainHeader::SIZE] = *b"\
+    PRODUCT=\"~ ~ ~ ~ ~ ~ ~ ~ ~ ~ ~ ~ ~ ~ ~ ~ ~ ~ ~ ~ ~ ~ ~ ~ ~ ~ ~ ~ ~ ~ ~ \"\n\
     PROC_STAGE=~\n\
-    REF_DOC=\"~~~~~~~~~~~~~~~~~~~~~~~\"\n\
-    \x20                                       \n\
-    ACQUISITION_STATION=\"~~~~~~~~~~~~~~~~~~~~\"\n\
-    PROC_CENTER=\"~~~~~~\"\n\
-    PROC_TIME=\"~~~~~~~~~~~~~~~~~~~~~~~~~~~\"\n\
-    SOFTWARE_VER=\"~~~~~~~~~~~~~~\"\n\
-    \x20                                       \n\
-    SENSING_START=\"~~~~~~~~~~~~~~~~~~~~~~~~~~~\"\n\
-    SENSING_STOP=\"~~~~~~~~~~~~~~~~~~~~~~~~~~~\"\n\
-    \x20                                       \n\
+    REF_DOC=\"~ ~ ~ ~ ~ ~ ~ ~ ~ ~ ~ ~\"\n\
+    ! ! ! ! ! ! ! ! ! ! ! ! ! ! ! ! ! ! ! ! \n\
+    ACQUISITION_STATION=\"~ ~ ~ ~ ~ ~ ~ ~ ~ ~ \"\n\
+    PROC_CENTER=\"~ ~ ~ \"\n\
+    PROC_TIME=\"~ ~ ~ ~ ~ ~ ~ ~ ~ ~ ~ ~ ~ ~\"\n\
+    SOFTWARE_VER=\"~ ~ ~ ~ ~ ~ ~ \"\n\
+    ! ! ! ! ! ! ! ! ! ! ! ! ! ! ! ! ! ! ! ! \n\
+    SENSING_START=\"~ ~ ~ ~ ~ ~ ~ ~ ~ ~ ~ ~ ~ ~\"\n\
+    SENSING_STOP=\"~ ~ ~ ~ ~ ~ ~ ~ ~ ~ ~ ~ ~ ~\"\n\
+    ! ! ! ! ! ! ! ! ! ! ! ! ! ! ! ! ! ! ! ! \n\
     PHASE=~\n\
-    CYCLE=-999\n\
-    REL_ORBIT=-99999\n\
-    ABS_ORBIT=-99999\n\
-    STATE_VECTOR_TIME=\"~~~~~~~~~~~~~~~~~~~~~~~~~~~\"\n\
-    DELTA_UT1=-.999999<s>\n\
-    X_POSITION=-9999999.999<m>\n\
-    Y_POSITION=-9999999.999<m>\n\
-    Z_POSITION=-9999999.999<m>\n\
-    X_VELOCITY=-9999.999999<m/s>\n\
-    Y_VELOCITY=-9999.999999<m/s>\n\
-    Z_VELOCITY=-9999.999999<m/s>\n\
-    VECTOR_SOURCE=\"~~\"\n\
-    \x20                                       \n\
-    UTC_SBT_TIME=\"~~~~~~~~~~~~~~~~~~~~~~~~~~~\"\n\
-    SAT_BINARY_TIME=-9999999999\n\
-    CLOCK_STEP=-9999999999<ps>\n\
-    \x20                               \n\
-    LEAP_UTC=\"~~~~~~~~~~~~~~~~~~~~~~~~~~~\"\n\
-    LEAP_SIGN=-999\n\
+    CYCLE=-909\n\
+    REL_ORBIT=-90909\n\
+    ABS_ORBIT=-90909\n\
+    STATE_VECTOR_TIME=\"~ ~ ~ ~ ~ ~ ~ ~ ~ ~ ~ ~ ~ ~\"\n\
+    DELTA_UT1=-.909090<s>\n\
+    X_POSITION=-9090909.909<m>\n\
+    Y_POSITION=-9090909.909<m>\n\
+    Z_POSITION=-9090909.909<m>\n\
+    X_VELOCITY=-9090.909090<m/s>\n\
+    Y_VELOCITY=-9090.909090<m/s>\n\
+    Z_VELOCITY=-9090.909090<m/s>\n\
+    VECTOR_SOURCE=\"~ \"\n\
+    ! ! ! ! ! ! ! ! ! ! ! ! ! ! ! ! ! ! ! ! \n\
+    UTC_SBT_TIME=\"~ ~ ~ ~ ~ ~ ~ ~ ~ ~ ~ ~ ~ ~\"\n\
+    SAT_BINARY_TIME=-9090909090\n\
+    CLOCK_STEP=-9090909090<ps>\n\
+    ! ! ! ! ! ! ! ! ! ! ! ! ! ! ! ! \n\
+    LEAP_UTC=\"~ ~ ~ ~ ~ ~ ~ ~ ~ ~ ~ ~ ~ ~\"\n\
+    LEAP_SIGN=-909\n\
     LEAP_ERR=1\n\
-    \x20                                       \n\
+    ! ! ! ! ! ! ! ! ! ! ! ! ! ! ! ! ! ! ! ! \n\
     PRODUCT_ERR=1\n\
-    TOT_SIZE=-99999999999999999999<bytes>\n\
-    SPH_SIZE=-9999999999<bytes>\n\
-    NUM_DSD=-9999999999\n\
-    DSD_SIZE=-9999999999<bytes>\n\
-    NUM_DATA_SETS=-9999999999\n\
-    \x20                                       \n\
+    TOT_SIZE=-90909090909090909090<bytes>\n\
+    SPH_SIZE=-9090909090<bytes>\n\
+    NUM_DSD=-9090909090\n\
+    DSD_SIZE=-9090909090<bytes>\n\
+    NUM_DATA_SETS=-9090909090\n\
+    ! ! ! ! ! ! ! ! ! ! ! ! ! ! ! ! ! ! ! ! \n\
 ";
 
 pub const MPH_BARRED: [u8; MainHeader::SIZE] = *b"\
     ~~~~~~~~~\"\"\"\"\"\"\"\"\"\"\"\"\"\"\"\"\"\"\"\"\"\"\"\"\"\"\"\"\"\"\"\"\"\"\"\"\"\"\"\"\"\"\"\"\"\"\"\"\"\"\"\"\"\"\"\"\"\"\"\"\"\"~~\
     ~~~~~~~~~~~\"~\
     ~~~~~~~~~\"\"\"\"\"\"\"\"\"\"\"\"\"\"\"\"\"\"\"\"\"\"\"~~\
-    ~~~~~~~~~~~~~~~~~~~~~~~~~~~~~~~~~~~~~~~~~\
+    !!!!!!!!!!!!!!!!!!!!!!!!!!!!!!!!!!!!!!!!~\
     ~~~~~~~~~~~~~~~~~~~~~\"\"\"\"\"\"\"\"\"\"\"\"\"\"\"\"\"\"\"\"~~\
     ~~~~~~~~~~~~~\"\"\"\"\"\"~~\
     ~~~~~~~~~~~\"\"\"\"\"\"\"\"\"\"\"\"\"\"\"\"\"\"\"\"\"\"\"\"\"\"\"~~\
     ~~~~~~~~~~~~~~\"\"\"\"\"\"\"\"\"\"\"\"\"\"~~\
-    ~~~~~~~~~~~~~~~~~~~~~~~~~~~~~~~~~~~~~~~~~\
+    !!!!!!!!!!!!!!!!!!!!!!!!!!!!!!!!!!!!!!!!~\
     ~~~~~~~~~~~~~~~\"\"\"\"\"\"\"\"\"\"\"\"\"\"\"\"\"\"\"\"\"\"\"\"\"\"\"~~\
     ~~~~~~~~~~~~~~\"\"\"\"\"\"\"\"\"\"\"\"\"\"\"\"\"\"\"\"\"\"\"\"\"\"\"~~\
-    ~~~~~~~~~~~~~~~~~~~~~~~~~~~~~~~~~~~~~~~~~\
+    !!!!!!!!!!!!!!!!!!!!!!!!!!!!!!!!!!!!!!!!~\
     ~~~~~~\"~\
     ~~~~~~,~~~~\
     ~~~~~~~~~~,~~~~~~\
@@ -268,22 +270,22 @@ pub const MPH_BARRED: [u8; MainHeader::SIZE] = *b"\
     ~~~~~~~~~~~,~~~~~~~~~~~~~~~~~\
     ~~~~~~~~~~~,~~~~~~~~~~~~~~~~~\
     ~~~~~~~~~~~~~~~\"\"~~\
-    ~~~~~~~~~~~~~~~~~~~~~~~~~~~~~~~~~~~~~~~~~\
+    !!!!!!!!!!!!!!!!!!!!!!!!!!!!!!!!!!!!!!!!~\
     ~~~~~~~~~~~~~~\"\"\"\"\"\"\"\"\"\"\"\"\"\"\"\"\"\"\"\"\"\"\"\"\"\"\"~~\
     ~~~~~~~~~~~~~~~~,~~~~~~~~~~~\
     ~~~~~~~~~~~,~~~~~~~~~~~~~~~\
-    ~~~~~~~~~~~~~~~~~~~~~~~~~~~~~~~~~\
+    !!!!!!!!!!!!!!!!!!!!!!!!!!!!!!!!~\
     ~~~~~~~~~~\"\"\"\"\"\"\"\"\"\"\"\"\"\"\"\"\"\"\"\"\"\"\"\"\"\"\"~~\
     ~~~~~~~~~~,~~~~\
     ~~~~~~~~~~~\
-    ~~~~~~~~~~~~~~~~~~~~~~~~~~~~~~~~~~~~~~~~~\
+    !!!!!!!!!!!!!!!!!!!!!!!!!!!!!!!!!!!!!!!!~\
     ~~~~~~~~~~~~~~\
     ~~~~~~~~~,~~~~~~~~~~~~~~~~~~~~~~~~~~~~\
     ~~~~~~~~~,~~~~~~~~~~~~~~~~~~\
     ~~~~~~~~,~~~~~~~~~~~\
     ~~~~~~~~~,~~~~~~~~~~~~~~~~~~\
     ~~~~~~~~~~~~~~,~~~~~~~~~~~\
-    ~~~~~~~~~~~~~~~~~~~~~~~~~~~~~~~~~~~~~~~~~\
+    !!!!!!!!!!!!!!!!!!!!!!!!!!!!!!!!!!!!!!!!~\
 ";
 
 // One DSD, by the same columns.
@@ -298,26 +300,26 @@ pub const DSD_WIDTHS: [u8; 8] = [28, 1, 62, 21, 21, 11, 11, 32];
 // Where its type stands.
 pub const DSD_TYPE_AT: usize = 47;
 
-pub const DSD_LOWEST: [u8; Entry::SIZE] = *b"\
-    DS_NAME=\"                            \"\n\
+pub const DSD_ONE_END: [u8; Entry::SIZE] = *b"\
+    DS_NAME=\" ~ ~ ~ ~ ~ ~ ~ ~ ~ ~ ~ ~ ~ ~\"\n\
     DS_TYPE=A\n\
-    FILENAME=\"                                                              \"\n\
-    DS_OFFSET=+00000000000000000000<bytes>\n\
-    DS_SIZE=+00000000000000000000<bytes>\n\
-    NUM_DSR=+0000000000\n\
-    DSR_SIZE=+0000000000<bytes>\n\
-    \x20                               \n\
+    FILENAME=\" ~ ~ ~ ~ ~ ~ ~ ~ ~ ~ ~ ~ ~ ~ ~ ~ ~ ~ ~ ~ ~ ~ ~ ~ ~ ~ ~ ~ ~ ~ ~\"\n\
+    DS_OFFSET=+09090909090909090909<bytes>\n\
+    DS_SIZE=+09090909090909090909<bytes>\n\
+    NUM_DSR=+0909090909\n\
+    DSR_SIZE=+0909090909<bytes>\n\
+    \x20! ! ! ! ! ! ! ! ! ! ! ! ! ! ! !\n\
 ";
 
-pub const DSD_HIGHEST: [u8; Entry::SIZE] = *b"\
-    DS_NAME=\"~~~~~~~~~~~~~~~~~~~~~~~~~~~~\"\n\
+pub const DSD_OTHER_END: [u8; Entry::SIZE] = *b"\
+    DS_NAME=\"~ ~ ~ ~ ~ ~ ~ ~ ~ ~ ~ ~ ~ ~ \"\n\
     DS_TYPE=R\n\
-    FILENAME=\"~~~~~~~~~~~~~~~~~~~~~~~~~~~~~~~~~~~~~~~~~~~~~~~~~~~~~~~~~~~~~~\"\n\
-    DS_OFFSET=-99999999999999999999<bytes>\n\
-    DS_SIZE=-99999999999999999999<bytes>\n\
-    NUM_DSR=-9999999999\n\
-    DSR_SIZE=-9999999999<bytes>\n\
-    \x20                               \n\
+    FILENAME=\"~ ~ ~ ~ ~ ~ ~ ~ ~ ~ ~ ~ ~ ~ ~ ~ ~ ~ ~ ~ ~ ~ ~ ~ ~ ~ ~ ~ ~ ~ ~ \"\n\
+    DS_OFFSET=-90909090909090909090<bytes>\n\
+    DS_SIZE=-90909090909090909090<bytes>\n\
+    NUM_DSR=-9090909090\n\
+    DSR_SIZE=-9090909090<bytes>\n\
+    ! ! ! ! ! ! ! ! ! ! ! ! ! ! ! ! \n\
 ";
 
 pub const DSD_BARRED: [u8; Entry::SIZE] = *b"\
@@ -328,5 +330,5 @@ pub const DSD_BARRED: [u8; Entry::SIZE] = *b"\
     ~~~~~~~~,~~~~~~~~~~~~~~~~~~~~~~~~~~~~\
     ~~~~~~~~,~~~~~~~~~~~\
     ~~~~~~~~~,~~~~~~~~~~~~~~~~~~\
-    ~~~~~~~~~~~~~~~~~~~~~~~~~~~~~~~~~\
+    !!!!!!!!!!!!!!!!!!!!!!!!!!!!!!!!~\
 ";

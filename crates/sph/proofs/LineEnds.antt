@@ -6,14 +6,14 @@ use mathlib.Core.List.{List, [], _∷_}
 use mathlib.Core.Path.{_≡_, refl, sym, _∙_}
 use native.Mathlib.Omega.{arith}
 use native.Mathlib.Numerals.{add-one}
-use lib.Dec.{eqb}
+use lib.Dec.{eqb, ltb, eqb→eq, ltb→lt}
 use lib.ListN.{length, getD}
 use borrow.Author.Tests.{eq-eqb, ne-eqb, eqb-true, le-leb, lt-leb}
 use Rattle.layout.specs.Bytes.{part, byteAt}
 use Rattle.layout.specs.Search.{find}
 use Rattle.layout.specs.Sph.{ended, blanks, unquoted, quoted, value, keyword, line}
 use Rattle.layout.specs.Text.{plain, fits}
-use Rattle.layout.proofs.Laws.{find-step, find-bounds}
+use Rattle.layout.proofs.Laws.{and-T, find-step, find-bounds}
 use Rattle.text.specs.Blanks.{notBlank}
 use Rattle.text.specs.Runs.{fails}
 use Rattle.sph.specs.LineEnds.{endsLine, inKeyword, endIf, Ended}
@@ -22,6 +22,19 @@ use Rattle.text.proofs.Parts.{part-cons, part-end}
 -- what is found of from..to lies in it
 pub run-within : (t : ℕ → Bool) (from to r : ℕ) → from ≤ to → r ≡ find t from (to - from) → (from ≤ r) × (r ≤ to)
 run-within t from to r h e = let k = find-bounds t from (to - from) in (omega (arith, k .0), omega (arith, k .1))
+
+-- byte 10 stands at a place before `to`
+module _ (b : List ℕ) (at to : ℕ) where
+  pub ends-none : to ≤ at → false ≡ (ltb at to && endsLine b at)
+  ends-none h = rw (lt-leb (suc at) to (omega arith))
+
+  pub ends-test : at < to → eqb (getD b at 0) 10 ≡ (ltb at to && endsLine b at)
+  unfolding endsLine byteAt
+  ends-test h = rw (le-leb (suc at) to (omega arith))
+
+  pub ends-here : (r : Bool) → r ≡ (ltb at to && endsLine b at) → r ≡ true → (at < to) × (getD b at 0 ≡ 10)
+  unfolding endsLine byteAt
+  ends-here r e h = let both = and-T (ltb at to) (eqb (getD b at 0) 10) .0 (rw (sym e ∙ h) tt) in (ltb→lt at to (both .0), eqb→eq (getD b at 0) 10 (both .1))
 
 -- this byte, and then what passes the rest
 abbrev after : ℕ → (List ℕ → Bool) → List ℕ → Bool
@@ -153,9 +166,20 @@ module _ (b : List ℕ) (start to : ℕ) where
     unfolding ended
     last-other e = bad-end ended at (omega arith) (end-bad ended at h l (ne-eqb (getD b at 0) 10 e))
 
+    at-once : (test : List ℕ → Bool) → getD b at 0 ≡ 10 → test (getD b at 0 ∷ part b (at + 1) (to - (at + 1))) ≡ true → Ended test b start at to (at + 1)
+    at-once test e g = record { is = sym (end-here test at h l e g); inside = omega arith }
+
     pub last-here : getD b at 0 ≡ 10 → Ended ended b start at to (at + 1)
     unfolding ended
-    last-here e = record { is = sym (end-here ended at h l e (eq-eqb (getD b at 0) 10 e)); inside = omega arith }
+    last-here e = at-once ended e (eq-eqb (getD b at 0) 10 e)
+
+    pub blanks-here : getD b at 0 ≡ 10 → Ended blanks b start at to (at + 1)
+    unfolding blanks
+    blanks-here e = at-once blanks e (rw (eq-eqb (getD b at 0) 10 e))
+
+    pub unquoted-here : getD b at 0 ≡ 10 → Ended unquoted b start at to (at + 1)
+    unfolding unquoted
+    unquoted-here e = at-once unquoted e (rw (eq-eqb (getD b at 0) 10 e))
 
   -- a run up to e
   module _ (at e : ℕ) (h : at ≤ to) (l : to ≤ length b) where

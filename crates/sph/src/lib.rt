@@ -1,12 +1,13 @@
 // The lines of the SPH before the DSDs (document 01, "Header text", last paragraph, and rule 7).
 ghost use mathlib.Core.Path.{_≡_};
 ghost use Prim.Native.Nat.{_+_, _-_, _<_, _≤_};
-ghost use mathlib.Core.Bool.{not};
+ghost use mathlib.Core.Bool.{not, _&&_};
+ghost use lib.Dec.{ltb};
 ghost use lib.ListN.{length};
 ghost use Rattle.layout.specs.Search.{some, find};
 ghost use Rattle.layout.specs.Sph.{ended, blanks, unquoted, quoted, value, keyword, line};
 ghost use Rattle.text.specs.Runs.{fails, Skipped};
-ghost use Rattle.sph.specs.LineEnds.{inKeyword, Ended, firstBadLine};
+ghost use Rattle.sph.specs.LineEnds.{endsLine, inKeyword, Ended, firstBadLine};
 use text::first_not_blank;
 use text::first_not_plain;
 use text::is_plain;
@@ -84,11 +85,25 @@ fn last_end(p: &[u8], start: usize, at: usize, to: usize) -> usize
     at + 1
 }
 
+// Byte 10 stands at `at`. A run is looked for behind this test: where a short line ends at once, the next one then waits for no search.
+fn ends_at(p: &[u8], at: usize, to: usize) -> bool
+    requires { ⌜ to ≤ length (now p) ⌝ }
+    ensures { λ r. ⌜ r ≡ (ltb at to && endsLine (now (p .entry)) at) ⌝ }
+{
+    if to <= at {
+        return false;
+    }
+    p[at] == 10
+}
+
 // Blanks, and byte 10.
 fn blanks_end(p: &[u8], start: usize, at: usize, to: usize) -> usize
     requires { ⌜ (start ≤ at) × (at ≤ to) × (to ≤ length (now p)) ⌝ }
     ensures { λ r. ⌜ Ended blanks (now (p .entry)) start at to r ⌝ }
 {
+    if ends_at(p, at, to) {
+        return at + 1;
+    }
     let end = first_not_blank(p, at, to);
     last_end(p, start, end, to)
 }
@@ -98,6 +113,9 @@ fn unquoted_end(p: &[u8], start: usize, at: usize, to: usize) -> usize
     requires { ⌜ (start ≤ at) × (at ≤ to) × (to ≤ length (now p)) ⌝ }
     ensures { λ r. ⌜ Ended unquoted (now (p .entry)) start at to r ⌝ }
 {
+    if ends_at(p, at, to) {
+        return at + 1;
+    }
     let end = first_not_plain(p, at, to);
     last_end(p, start, end, to)
 }

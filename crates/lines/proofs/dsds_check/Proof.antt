@@ -18,13 +18,17 @@ use Rattle.lines.proofs.dsds_check.Statement.{statement}
 use Rattle.lines.proofs.dsds_check.Tie as tie
 
 abbrev Inv-loop : tie.InvT-loop
-Inv-loop p from n lowest highest barred i₀ i = (i ≤ n) × (first (rule8From p from) 0 n ≡ first (rule8From p from) i (n - i))
+Inv-loop p from n ones others barred i₀ i = (i ≤ n) × (first (rule8From p from) 0 n ≡ first (rule8From p from) i (n - i))
 
 abbrev μ-loop : tie.MeasureT-loop
-μ-loop p from n lowest highest barred i₀ i = n - i
+μ-loop p from n ones others barred i₀ i = n - i
+
+returns : tie.Need-returns Inv-loop μ-loop
+unfolding verdictIs first
+returns c = rw (c .if1 .taken)
 
 loop-holds : tie.Need-loop-holds Inv-loop μ-loop
-loop-holds c = (omega arith, rw (sub-zero (c .before .args .n)))
+loop-holds c = (omega arith, rw (sub-zero (c .before .before .args .n)))
 
 mul-at : tie.Need-mul-at Inv-loop μ-loop
 mul-at c = omega arith
@@ -43,21 +47,21 @@ slice-aggregate-dsd-check-3 c = omega arith
 
 dsd-check-requires : tie.Need-dsd-check-requires Inv-loop μ-loop
 unfolding narrow strict strictBut placeOf quoteWidth layout dsd lineClasses valueClasses
-dsd-check-requires c κs = (omega arith, record { low = refl; high = refl; out = refl; tight = tt })
+dsd-check-requires c κs = (omega arith, record { one = refl; other = refl; out = refl; tight = tt })
 
-add-if1 : tie.Need-add-if1 Inv-loop μ-loop
-add-if1 c = omega arith
+add-if2 : tie.Need-add-if2 Inv-loop μ-loop
+add-if2 c = omega arith
 
 refuse-requires : tie.Need-refuse-requires Inv-loop μ-loop
 refuse-requires c κs = search needs
 
-returns : tie.Need-returns Inv-loop μ-loop
+returns-2 : tie.Need-returns-2 Inv-loop μ-loop
 unfolding verdictIs
-returns c =
-    let args = c .before .before .before .before .before .before .before .before .before .args in
+returns-2 c =
+    let args = c .before .before .before .before .before .before .before .before .before .before .args in
     let turn = c .before .before .before .before .before .before .before .loop in
     let answer = dsd-answer (args .p .now) (args .from) (turn .i) _ (c .before .before .dsd-check .ensures) (omega arith) in
-    c .refuse .ensures ∙ sym (left-refused _ _ _ (turn .inv .1) (omega arith) (answer ∙ rw (ne-eqb _ _ (c .before .if1 .taken))))
+    c .refuse .ensures ∙ sym (left-refused _ _ _ (turn .inv .1) (omega arith) (answer ∙ rw (ne-eqb _ _ (c .before .if2 .taken))))
 
 add-i : tie.Need-add-i Inv-loop μ-loop
 add-i c = omega arith
@@ -67,14 +71,14 @@ loop-less c = omega arith
 
 loop-again : tie.Need-loop-again Inv-loop μ-loop
 loop-again c =
-    let args = c .before .before .before .before .before .before .before .before .args in
+    let args = c .before .before .before .before .before .before .before .before .before .args in
     let turn = c .before .before .before .before .before .before .loop in
     let answer = dsd-answer (args .p .now) (args .from) (turn .i) _ (c .before .dsd-check .ensures) (omega arith) in
-    (omega arith, left-next _ _ _ (turn .inv .1) (omega arith) (answer ∙ rw (eq-eqb _ _ (c .if1 .left))))
+    (omega arith, left-next _ _ _ (turn .inv .1) (omega arith) (answer ∙ rw (eq-eqb _ _ (c .if2 .left))))
 
-returns-2 : tie.Need-returns-2 Inv-loop μ-loop
+returns-3 : tie.Need-returns-3 Inv-loop μ-loop
 unfolding verdictIs
-returns-2 c = sym (left-end _ _ _ (c .before .loop .inv .1) (omega arith))
+returns-3 c = sym (left-end _ _ _ (c .before .loop .inv .1) (omega arith))
 
 pub dsds-check-spec : {M : Type 1} → statement M
 dsds-check-spec =
@@ -82,6 +86,7 @@ dsds-check-spec =
     (tie.spec
     Inv-loop
     μ-loop
+    returns
     loop-holds
     mul-at
     add-at
@@ -89,10 +94,10 @@ dsds-check-spec =
     slice-aggregate-dsd-check-2
     slice-aggregate-dsd-check-3
     dsd-check-requires
-    add-if1
+    add-if2
     refuse-requires
-    returns
+    returns-2
     add-i
     loop-less
     loop-again
-    returns-2)
+    returns-3)
