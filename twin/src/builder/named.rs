@@ -47,7 +47,7 @@ const LARGEST: u64 = i64::MAX as u64;
 const TOO_LARGE: Number = Number { minus: false, magnitude: 1 << 63 };
 
 /// The named products but those of [`CATALOGUE_NAMES`], which are all accepted, and `wrapping-states`.
-pub const NAMED_PRODUCTS: [NamedProduct; 67] = [
+pub const NAMED_PRODUCTS: [NamedProduct; 71] = [
     accepted("case-a", case_a),
     accepted("case-b", case_b),
     refused("case-c", case_c, (12, 1526, 0)),
@@ -60,6 +60,8 @@ pub const NAMED_PRODUCTS: [NamedProduct; 67] = [
     refused("case-j", Vec::new, (1, 0, NO_ENTRY)),
     asked(accepted("case-k", case_k), POINT),
     asked(refused("case-l", case_l, (21, 0, 0)), POINT),
+    accepted("descriptors-41", || one_byte_sets(41).build()),
+    accepted("descriptors-64", || one_byte_sets(64).build()),
     accepted("descriptors-128", || one_byte_sets(128).build()),
     accepted("descriptors-128-reversed", || one_byte_sets_in_order(|order| order.reverse())),
     accepted("descriptors-128-shuffled", || one_byte_sets_in_order(shuffle)),
@@ -126,8 +128,10 @@ pub const NAMED_PRODUCTS: [NamedProduct; 67] = [
     refused("SCI_NL__1P-damaged", damaged_count, (16, 28_407, 26)),
     accepted("states-1000", || thousand_states().build()),
     accepted("spares-128", || Description::new(vec![EntryDescription::spare(); 128]).build()),
-    accepted("sph-long-lines", || lines_of(1024).build()),
-    accepted("sph-short-lines", || lines_of(4).build()),
+    accepted("sph-shortest-blank-lines", || repeated_line(b" \n".to_vec()).build()),
+    accepted("sph-long-lines", || repeated_line(unquoted_line(1024)).build()),
+    accepted("sph-long-quoted-lines", || repeated_line(quoted_line(1024)).build()),
+    accepted("sph-short-lines", || repeated_line(unquoted_line(4)).build()),
     refused("listed-last", || long_product(65_536), (14, 1247, NO_ENTRY)),
     refused("listed-no-more", || long_product(65_537), (14, 1247, NO_ENTRY)),
 ];
@@ -247,11 +251,24 @@ fn long_sph(size: usize) -> Description {
     Description { sph_lines, ..Description::default() }
 }
 
-/// 49,152 bytes of SPH lines of one length, which divides that: the value is text, or 1 in the shortest.
-fn lines_of(length: usize) -> Description {
-    let text = (b'0'..=b'~').cycle().skip(1).take(length - 3).collect();
-    let line = [b"A=".to_vec(), text, b"\n".to_vec()].concat();
-    Description { sph_lines: line.repeat(49_152 / length), ..Description::default() }
+/// 49,152 bytes of SPH: one line again and again, whose length divides that.
+fn repeated_line(line: Vec<u8>) -> Description {
+    Description { sph_lines: line.repeat(49_152 / line.len()), ..Description::default() }
+}
+
+/// Text of a length, without quotes; its first byte is 1.
+fn text_of(length: usize) -> Vec<u8> {
+    (b'0'..=b'~').cycle().skip(1).take(length).collect()
+}
+
+/// A line of a length whose value is text.
+fn unquoted_line(length: usize) -> Vec<u8> {
+    [b"A=".to_vec(), text_of(length - 3), b"\n".to_vec()].concat()
+}
+
+/// A line of a length whose value is a q.
+fn quoted_line(length: usize) -> Vec<u8> {
+    [b"A=\"".to_vec(), text_of(length - 5), b"\"\n".to_vec()].concat()
 }
 
 /// A SCI_NL__1P whose first state says one nadir record more than there is.

@@ -3,7 +3,8 @@
 use crate::common::{answer, refusal, refused, NONE};
 use twin::builder::{named_product, wrapping_states, CATALOGUE_NAMES, NAMED_PRODUCTS};
 use twin::{
-    directory, field, judge, point, record_part, record_place, sph_part, FieldAnswer, Part, Verdict,
+    directory, field, header_values, judge, point, record_part, record_place, sph_part, FieldAnswer,
+    Part, Verdict,
 };
 
 fn whole(name: &str, offset: u64, kind: u64) -> i64 {
@@ -42,6 +43,14 @@ fn cases_a_to_g_have_the_lengths_of_document_01() {
         ("case-j", 0),
     ] {
         assert_eq!(named_product(name).unwrap().len(), length, "{name}");
+    }
+}
+
+#[test]
+fn sph_lines_of_named_products_are_as_long_as_they_may_be() {
+    for kind in ["49152", "shortest-blank-lines", "long-lines", "long-quoted-lines", "short-lines"] {
+        let values = header_values(&named_product(&format!("sph-{kind}")).unwrap()).unwrap();
+        assert_eq!((values.tot_size, values.sph_size, values.num_dsd), (50_399, 49_152, 0), "{kind}");
     }
 }
 

@@ -70,5 +70,5 @@ fn products_are_written_whole() {
     assert_eq!(made("good-65536:3:4").stdout.len(), 65_536);
     let names = String::from_utf8(made("").stdout).unwrap();
     assert!(names.lines().all(|name| name == "wrapping-states" || named_product(name).is_some()));
-    assert_eq!(names.lines().count(), 76);
+    assert_eq!(names.lines().count(), 80);
 }

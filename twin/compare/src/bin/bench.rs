@@ -14,16 +14,21 @@ use twin::words::{EXTINCTION_DOUBLES, EXTINCTION_WORDS};
 const ROUNDS: usize = 60;
 const ROUND: Duration = Duration::from_millis(2);
 
-/// The products by their names, and what the table calls them.
-const PRODUCTS: [(&str, &str); 10] = [
+/// The products by their names, and what the table calls them. The shortest blank line is a blank and byte 10: a line of
+/// byte 10 alone is bad (rule 7).
+const PRODUCTS: [(&str, &str); 14] = [
     ("case-a", "main header alone (case A)"),
+    ("descriptors-41", "41 entries of one byte"),
     ("states-1000", "41 entries, 1,000 states"),
+    ("descriptors-64", "64 entries of one byte"),
     ("descriptors-128", "128 entries of one byte"),
     ("descriptors-128-reversed", "128 entries of one byte, reversed"),
     ("descriptors-128-shuffled", "128 entries of one byte, shuffled"),
     ("spares-128", "128 spares"),
     ("sph-49152", "49,152 bytes of SPH: one blank line"),
-    ("sph-long-lines", "49,152 bytes of SPH: long lines"),
+    ("sph-shortest-blank-lines", "49,152 bytes of SPH: shortest blank lines (2 bytes)"),
+    ("sph-long-lines", "49,152 bytes of SPH: long unquoted lines"),
+    ("sph-long-quoted-lines", "49,152 bytes of SPH: long quoted lines"),
     ("sph-short-lines", "49,152 bytes of SPH: A=1"),
     (WITH_PIXELS, "GOMOS EXT"),
 ];
@@ -129,7 +134,7 @@ fn print_compilers() {
 
 /// Prints a row of the table.
 fn print_row(call: &str, title: &str, [ours, twins]: [f64; 2]) {
-    println!("{call:<10} {title:<36} {ours:>10.0} {twins:>10.0} {:>10.2}", ours / twins);
+    println!("{call:<10} {title:<51} {ours:>10.0} {twins:>10.0} {:>10.2}", ours / twins);
 }
 
 /// Prints the rows of a product; where it has pixels, answers a pixel's times by its verdict's: ours, then the twin's.
@@ -158,7 +163,7 @@ fn main() {
         model: [0.0; EXTINCTION_DOUBLES],
     };
     println!(
-        "{:<10} {:<36} {:>10} {:>10} {:>10}",
+        "{:<10} {:<51} {:>10} {:>10} {:>10}",
         "call", "product", "ours/ns", "twin/ns", "ours/twin"
     );
     let timed = PRODUCTS.map(|(name, title)| time_product(name, title, &mut rooms));
