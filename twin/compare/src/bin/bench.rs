@@ -14,8 +14,8 @@ use twin::words::{EXTINCTION_DOUBLES, EXTINCTION_WORDS};
 const ROUNDS: usize = 60;
 const ROUND: Duration = Duration::from_millis(2);
 
-/// The products by their names, and what the table calls them. The shortest blank line is a blank and byte 10: a line of
-/// byte 10 alone is bad (rule 7).
+/// The products by their names, and what the table calls them. The shortest blank line is a blank and byte 10: byte 10
+/// alone is a bad line (rule 7).
 const PRODUCTS: [(&str, &str); 14] = [
     ("case-a", "main header alone (case A)"),
     ("descriptors-41", "41 entries of one byte"),

@@ -1,7 +1,11 @@
-//! What the tests share: products by name and where their length is written.
+//! What the tests share: products by name, where their length is written, bytes to put in the place of others, and the
+//! question whether a product is refused.
 
-use compare::{number_fields, NumberField};
+use std::fmt::Arguments;
+
+use compare::{number_fields, report_of_product, Comparer, NumberField};
 use twin::builder::{named_product, Description, EntryDescription, Generator};
+use twin::words::Call;
 
 /// Choices of records, fields and points that are the same in every run.
 pub fn choices() -> Generator {
@@ -20,4 +24,31 @@ pub fn one_record(record: Vec<u8>) -> Vec<u8> {
 /// The field of TOT_SIZE.
 pub fn total_size(product: &[u8]) -> NumberField {
     number_fields(product, 1066..1104).remove(0)
+}
+
+/// Bytes on both sides of those that blanks, text, keywords and the ends of lines are told by, and D of DS_NAME.
+pub const OTHERS: [u8; 12] = [0, b'\n', 31, b' ', b'!', b'"', b'=', b'D', b'a', b'~', 127, 255];
+
+/// Bytes to put in the place of one: others, and itself with its top bit flipped.
+pub fn others(byte: u8) -> impl Iterator<Item = u8> {
+    OTHERS.into_iter().filter(move |&other| other != byte).chain([byte ^ 128])
+}
+
+/// Puts a byte at each of two places.
+pub fn put(product: &mut [u8], places: [usize; 2], bytes: [u8; 2]) {
+    for (place, byte) in places.into_iter().zip(bytes) {
+        product[place] = byte;
+    }
+}
+
+/// Asks both for the verdict and the directory: each is this refusal, or answered where it is all zero.
+pub fn expect(comparer: &mut Comparer, product: &[u8], origin: Arguments, refusal: [u64; 3]) {
+    comparer.set_origin(origin);
+    for call in [Call::Judge, Call::OpenDirectory] {
+        let words = comparer.compare(product, call).words;
+        if words[..3] != refusal {
+            let product = report_of_product(&origin.to_string(), product);
+            panic!("{call:?} is {:?} and not {refusal:?}\n{product}", &words[..3]);
+        }
+    }
 }
