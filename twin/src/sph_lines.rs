@@ -28,7 +28,7 @@ fn good_line(bytes: &[u8]) -> Option<usize> {
 
 /// The length of a keyword, `=` and a value, or nothing.
 fn named_content(bytes: &[u8]) -> Option<usize> {
-    let keyword = bytes.iter().take_while(|&&byte| is_keyword(byte)).count();
+    let keyword = run_length(bytes, is_keyword);
     if bytes.get(keyword) != Some(&b'=') {
         return None;
     }

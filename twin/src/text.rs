@@ -8,19 +8,36 @@ pub(crate) fn is_text(byte: u8) -> bool {
     (32..=126).contains(&byte) && byte != b'"'
 }
 
-/// Bytes looked at together.
-const BLOCK: usize = 16;
+/// How a run is looked at: its first bytes one by one, since most are short, then narrow blocks of bytes together, and
+/// behind a wide block's length, which few runs have, wide ones.
+const FIRST: usize = 4;
+const NARROW: usize = 8;
+const WIDE: usize = 64;
 
 #[inline]
 fn all_allowed(bytes: &[u8], allowed: impl Fn(u8) -> bool) -> bool {
-    bytes.iter().fold(true, |good, &byte| good & allowed(byte))
+    bytes.iter().fold(0, |bad, &byte| bad | u8::from(!allowed(byte))) == 0
+}
+
+/// How many bytes at the start stand in blocks of which all bytes are allowed.
+#[inline]
+fn run_of_blocks<const BLOCK: usize>(bytes: &[u8], allowed: impl Fn(u8) -> bool + Copy) -> usize {
+    let (blocks, _) = bytes.as_chunks::<BLOCK>();
+    blocks.iter().take_while(|block| all_allowed(*block, allowed)).count() * BLOCK
 }
 
 /// How many bytes at the start are allowed.
 #[inline]
 pub(crate) fn run_length(bytes: &[u8], allowed: impl Fn(u8) -> bool + Copy) -> usize {
-    let (blocks, _) = bytes.as_chunks::<BLOCK>();
-    let good = blocks.iter().take_while(|block| all_allowed(*block, allowed)).count() * BLOCK;
+    let first = bytes.first_chunk::<FIRST>();
+    if let Some(end) = first.and_then(|first| first.iter().position(|&byte| !allowed(byte))) {
+        return end;
+    }
+    let mut good = run_of_blocks::<NARROW>(&bytes[..bytes.len().min(WIDE)], allowed);
+    if good == WIDE {
+        good += run_of_blocks::<WIDE>(&bytes[good..], allowed);
+        good += run_of_blocks::<NARROW>(&bytes[good..], allowed);
+    }
     good + bytes[good..].iter().take_while(|&&byte| allowed(byte)).count()
 }
 
