@@ -41,13 +41,17 @@ pub(crate) fn run_length(bytes: &[u8], allowed: impl Fn(u8) -> bool + Copy) -> u
     good + bytes[good..].iter().take_while(|&&byte| allowed(byte)).count()
 }
 
-/// The first byte that differs from a run of fixed bytes of the same length.
+/// The first byte of a header that differs from the fixed one. All bytes are looked at before one is searched for.
 #[inline]
-pub(crate) fn first_different(bytes: &[u8], fixed: &[u8]) -> Option<usize> {
-    if bytes == fixed {
+pub(crate) fn first_different<const SIZE: usize>(
+    header: &[u8; SIZE],
+    fixed: &[u8; SIZE],
+) -> Option<usize> {
+    let together = (0..SIZE).fold(0, |together, at| together | (header[at] ^ fixed[at]));
+    if together == 0 {
         None
     } else {
-        bytes.iter().zip(fixed).position(|(byte, expected)| byte != expected)
+        (0..SIZE).find(|&at| header[at] != fixed[at])
     }
 }
 
@@ -60,7 +64,8 @@ pub(crate) fn first_outside<const SIZE: usize>(
 ) -> Option<usize> {
     let excess = |at: usize| {
         let above = header[at].wrapping_sub(bounds.lowest[at]);
-        above.saturating_sub(bounds.width[at]) | u8::from(header[at] == bounds.left_out[at])
+        let left_out = if header[at] == bounds.left_out[at] { u8::MAX } else { 0 };
+        above.saturating_sub(bounds.width[at]) | left_out
     };
     let together = (0..SIZE).fold(0, |together, at| together | excess(at));
     if together == 0 {
