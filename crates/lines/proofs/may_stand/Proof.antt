@@ -14,7 +14,7 @@ higher-requires c κs = search needs
 
 returns : tie.Need-returns
 unfolding mayStand
-returns c = rw (c .before .lower .ensures, c .higher .ensures)
+returns c = rw (c .before .lower .ensures, c .higher .ensures) refl
 
 pub may-stand-spec : {M : Type 1} → statement M
 may-stand-spec = tie.close (tie.spec lower-requires higher-requires returns)
