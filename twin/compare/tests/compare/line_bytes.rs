@@ -3,6 +3,7 @@
 
 use compare::Comparer;
 use twin::builder::{Description, EntryDescription, Generator};
+use twin::settings::number;
 
 use crate::common::{expect, others, put, OTHERS};
 
@@ -129,11 +130,19 @@ impl Between {
 const SHORT: usize = 200;
 const STEP: usize = 37;
 
+/// One length in so many is asked about: TWIN_LENGTH_STEP, or every length.
+fn length_step() -> usize {
+    let step = number("TWIN_LENGTH_STEP", 1) as usize;
+    assert!(step > 0, "TWIN_LENGTH_STEP is 0: it takes 1 or more");
+    step
+}
+
 /// Replaces each byte of lines of one form, and some of very long ones. What is empty at length 0 makes a bad line, but
 /// for a q.
 fn replace_each(form: fn(usize) -> Vec<u8>) {
     let mut comparer = Comparer::default();
-    for length in 0..=SHORT {
+    let step = length_step();
+    for length in (0..=SHORT).step_by(step) {
         let mut line = Between::new(form(length));
         line.ask(&mut comparer, "no change");
         (line.from..line.to).for_each(|place| line.replace_at(&mut comparer, place));
@@ -148,7 +157,7 @@ fn replace_each(form: fn(usize) -> Vec<u8>) {
     }
     let verdicts = comparer.met().verdicts;
     println!("{} questions of lines with a byte replaced; verdicts {verdicts:?}", comparer.asked());
-    assert!(verdicts[7] >= 50_000, "{verdicts:?}");
+    assert!(verdicts[7] >= 50_000 / step as u64, "{verdicts:?}");
     assert_eq!(verdicts[0] + verdicts[7], comparer.asked() as u64 / 2);
 }
 
