@@ -21,7 +21,7 @@ misplaced ones others barred b at i = not (mayStand (byteAt ones i) (byteAt othe
 
 -- ---- as strict as a layout
 
--- a byte from lo to hi that is not barred is of the class; where it is one byte, a second above it may be barred
+-- a byte from lo to hi that is not barred is of the class; a class of one byte may have one more above it, which is barred
 unfoldable pub narrow : Class → ℕ → ℕ → ℕ → Bool
 narrow (exactly y) lo hi barred = eqb lo y && (eqb hi y || (eqb hi (y + 1) && eqb barred hi))
 narrow plain lo hi barred = leb 32 lo && (leb hi 126 && eqb barred 34)

@@ -154,8 +154,9 @@ pub const MPH_WIDTHS: [u8; 41] = [
 
 // What may stand at each place of the main header: a byte between two ends, either end too, but not the one that is barred. A literal byte is both ends, so
 // that the one ends are the template of the literal bytes as well. A text's ends are a blank and ~, with a quote barred; a digit's are 0 and 9; a sign's + and
-// -, with the comma between them barred; a spare's a blank and !, which is barred. From byte to byte of a value the ends change sides, so that no byte stands
-// four times in a row: out of such a row the compiler makes a store of its own, and then it cannot read the rest of the table from the program.
+// -, with the comma between them barred; a spare's a blank and !, which is barred; and ~ is barred where nothing need be. From byte to byte of a value the
+// ends change sides, so that none stands four times in a row: out of such a row the compiler makes a store of its own, and then it cannot read what follows
+// from the program. The barred bytes are rows and single bytes throughout, which it can.
 pub const MPH_ONE_END: [u8; MainHeader::SIZE] = *b"\
     PRODUCT=\" ~ ~ ~ ~ ~ ~ ~ ~ ~ ~ ~ ~ ~ ~ ~ ~ ~ ~ ~ ~ ~ ~ ~ ~ ~ ~ ~ ~ ~ ~ ~\"\n\
     PROC_STAGE= \n\

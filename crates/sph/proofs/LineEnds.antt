@@ -3,6 +3,7 @@
 use Prim.Native.Nat.{ℕ, zero, suc, _+_, _-_, _≤_, _<_}
 use mathlib.Core.Bool.{Bool, true, false, cond, _&&_, not, or-false}
 use mathlib.Core.List.{List, [], _∷_}
+use mathlib.Core.Logic.{⊎-elim}
 use mathlib.Core.Path.{_≡_, refl, sym, _∙_}
 use native.Mathlib.Omega.{arith}
 use native.Mathlib.Numerals.{add-one}
@@ -13,7 +14,7 @@ use Rattle.layout.specs.Bytes.{part, byteAt}
 use Rattle.layout.specs.Search.{find}
 use Rattle.layout.specs.Sph.{ended, blanks, unquoted, quoted, value, keyword, line}
 use Rattle.layout.specs.Text.{plain, fits}
-use Rattle.layout.proofs.Laws.{and-T, find-step, find-bounds}
+use Rattle.layout.proofs.Laws.{and-T, lt-or-le, find-step, find-bounds}
 use Rattle.text.specs.Blanks.{notBlank}
 use Rattle.text.specs.Runs.{fails}
 use Rattle.sph.specs.LineEnds.{endsLine, inKeyword, endIf, Ended}
@@ -156,16 +157,15 @@ module _ (b : List ℕ) (start to : ℕ) where
   same-end : (test rest : List ℕ → Bool) (at i : ℕ) {r : ℕ} → endIf test b start at to ≡ endIf rest b start i to → Ended rest b start i to r → Ended test b start at to r
   same-end test rest at i e d = record { is = d .is ∙ sym e; inside = d .inside }
 
-  -- only byte 10 follows
-  pub last-none : (at : ℕ) → start ≤ to → to ≤ at → Ended ended b start at to start
+  -- only byte 10 follows; r says whether it stands there
+  pub last-none : (at : ℕ) → start ≤ at → at ≤ to → to ≤ length b → (r : Bool) → r ≡ (ltb at to && endsLine b at) → r ≡ false → Ended ended b start at to start
   unfolding ended
-  last-none at k h = bad-end ended at k (end-none ended at h refl)
+  last-none at k h l r e n =
+      bad-end ended at (omega arith)
+      (⊎-elim (λ m. end-bad ended at m l (ends-test b at to m ∙ sym e ∙ n)) (λ m. end-none ended at m refl) (lt-or-le at to))
 
+  -- byte 10 stands there
   module _ (at : ℕ) (k : start ≤ at) (h : at < to) (l : to ≤ length b) where
-    pub last-other : (getD b at 0 ≡ 10 → ⊥) → Ended ended b start at to start
-    unfolding ended
-    last-other e = bad-end ended at (omega arith) (end-bad ended at h l (ne-eqb (getD b at 0) 10 e))
-
     at-once : (test : List ℕ → Bool) → getD b at 0 ≡ 10 → test (getD b at 0 ∷ part b (at + 1) (to - (at + 1))) ≡ true → Ended test b start at to (at + 1)
     at-once test e g = record { is = sym (end-here test at h l e g); inside = omega arith }
 

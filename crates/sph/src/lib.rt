@@ -69,23 +69,7 @@ fn first_not_in_keyword(p: &[u8], from: usize, to: usize) -> usize
     to
 }
 
-// The tests of what stands in `at..to`, the rest of the line that begins at `start`: each answers the place behind the line's byte 10, or `start`.
-
-// Only byte 10 follows.
-fn last_end(p: &[u8], start: usize, at: usize, to: usize) -> usize
-    requires { ⌜ (start ≤ at) × (at ≤ to) × (to ≤ length (now p)) ⌝ }
-    ensures { λ r. ⌜ Ended ended (now (p .entry)) start at to r ⌝ }
-{
-    if to <= at {
-        return start;
-    }
-    if p[at] != 10 {
-        return start;
-    }
-    at + 1
-}
-
-// Byte 10 stands at `at`. A run is looked for behind this test: where a short line ends at once, the next one then waits for no search.
+// Byte 10 stands at `at`, before `to`.
 fn ends_at(p: &[u8], at: usize, to: usize) -> bool
     requires { ⌜ to ≤ length (now p) ⌝ }
     ensures { λ r. ⌜ r ≡ (ltb at to && endsLine (now (p .entry)) at) ⌝ }
@@ -96,7 +80,20 @@ fn ends_at(p: &[u8], at: usize, to: usize) -> bool
     p[at] == 10
 }
 
-// Blanks, and byte 10.
+// The tests of what stands in `at..to`, the rest of the line that begins at `start`: each answers the place behind the line's byte 10, or `start`.
+
+// Only byte 10 follows.
+fn last_end(p: &[u8], start: usize, at: usize, to: usize) -> usize
+    requires { ⌜ (start ≤ at) × (at ≤ to) × (to ≤ length (now p)) ⌝ }
+    ensures { λ r. ⌜ Ended ended (now (p .entry)) start at to r ⌝ }
+{
+    if ends_at(p, at, to) {
+        return at + 1;
+    }
+    start
+}
+
+// Blanks, and byte 10. Where a short line ends at once, here and in `unquoted_end`, no run is looked for: the next line would wait for what is found.
 fn blanks_end(p: &[u8], start: usize, at: usize, to: usize) -> usize
     requires { ⌜ (start ≤ at) × (at ≤ to) × (to ≤ length (now p)) ⌝ }
     ensures { λ r. ⌜ Ended blanks (now (p .entry)) start at to r ⌝ }
