@@ -1,0 +1,129 @@
+-- The days of years and of months, as the code works them out.
+-- Assumes nothing.
+use Prim.Native.Nat.{ℕ, zero, suc, _+_, _*_, _-_, _/_, _%_, _≤_, _<_}
+use mathlib.Core.Bool.{Bool, true, false, cond, _&&_, not}
+use mathlib.Core.List.{List, [], _∷_}
+use mathlib.Core.Path.{_≡_, refl, sym, ap, _∙_}
+use native.Mathlib.Omega.{arith}
+use lib.Dec.{T, leb, ltb, eqb, leb→le, ltb→lt, eqb→eq}
+use lib.ListN.{take, getD}
+use borrow.Author.Tests.{le-leb, lt-leb}
+use Rattle.layout.specs.Answer.{Answer, need, accepted}
+use Rattle.layout.specs.Search.{first, sum}
+use Rattle.layout.proofs.Laws.{and-T, need-accepts, first-accepts}
+use Rattle.calendar.specs.Calendar.{leap, months, daysOfMonth, daysOfYear, years}
+
+-- a test that each of n numbers passes, by computing it for each
+pub each-passes : (t : ℕ → Bool) (i n : ℕ) → first (λ k. need (t k) 0 0 0) i n ≡ accepted → (k : ℕ) → i ≤ k → k < i + n → T (t k)
+each-passes t i n h k l u = need-accepts (t k) 0 0 0 .0 (first-accepts (λ k. need (t k) 0 0 0) i n .0 h k l u)
+
+-- ---- years
+
+-- the years of the range that 4 divides are leap
+fourths : first (λ y. need (cond (leap y) (eqb (y % 4) 0) (not (eqb (y % 4) 0))) 0 0 0) 1980 120 ≡ accepted
+unfolding first leap
+fourths = refl
+
+pub every-fourth : (y : ℕ) → 1980 ≤ y → y ≤ 2099 → eqb (y % 4) 0 ≡ leap y
+every-fourth y l u = same (eqb (y % 4) 0) (leap y) (each-passes (λ y. cond (leap y) (eqb (y % 4) 0) (not (eqb (y % 4) 0))) 1980 120 fourths y l (omega arith))
+  where
+    same : (a b : Bool) → T (cond b a (not a)) → a ≡ b
+    same true true h = refl
+    same true false h = absurd h
+    same false true h = absurd h
+    same false false h = refl
+
+-- the first k years have together
+years-counted : first (λ k. need (eqb (sum (take k years)) ((1461 * k + 3) / 4)) 0 0 0) 0 121 ≡ accepted
+unfolding first sum years daysOfYear months leap
+years-counted = refl
+
+pub years-are : (k : ℕ) → k ≤ 120 → sum (take k years) ≡ (1461 * k + 3) / 4
+years-are k u = eqb→eq (sum (take k years)) ((1461 * k + 3) / 4) (each-passes (λ k. eqb (sum (take k years)) ((1461 * k + 3) / 4)) 0 121 years-counted k (omega arith) (omega arith))
+
+-- ---- months
+
+-- the first months of a year that is not leap
+abbrev pub table : List ℕ
+table = 0 ∷ 31 ∷ 59 ∷ 90 ∷ 120 ∷ 151 ∷ 181 ∷ 212 ∷ 243 ∷ 273 ∷ 304 ∷ 334 ∷ 365 ∷ []
+
+abbrev counts : Bool → ℕ → Bool
+counts long k = eqb (cond (long && leb 2 k) (getD table k 0 + 1) (getD table k 0)) (sum (take k (months long))) && leb (sum (take k (months long))) 366
+
+months-counted : (long : Bool) → first (λ k. need (counts long k) 0 0 0) 0 13 ≡ accepted
+unfolding first sum months
+months-counted true = refl
+months-counted false = refl
+
+module _ (long : Bool) (k : ℕ) (u : k ≤ 12) where
+  counted : T (eqb (cond (long && leb 2 k) (getD table k 0 + 1) (getD table k 0)) (sum (take k (months long)))) × T (leb (sum (take k (months long))) 366)
+  counted =
+      and-T (eqb (cond (long && leb 2 k) (getD table k 0 + 1) (getD table k 0)) (sum (take k (months long)))) (leb (sum (take k (months long))) 366) .0
+      (each-passes (counts long) 0 13 (months-counted long) k (omega arith) (omega arith))
+
+  months-are : cond (long && leb 2 k) (getD table k 0 + 1) (getD table k 0) ≡ sum (take k (months long))
+  months-are = eqb→eq (cond (long && leb 2 k) (getD table k 0 + 1) (getD table k 0)) (sum (take k (months long))) (counted .0)
+
+  pub months-most : sum (take k (months long)) ≤ 366
+  months-most = leb→le (sum (take k (months long))) 366 (counted .1)
+
+  -- with 29 February
+  pub longer : (long && leb 2 k) ≡ true → (getD table k 0 + 1 ≡ sum (take k (months long))) × (getD table k 0 + 1 ≤ 366)
+  longer h =
+      let e : getD table k 0 + 1 ≡ sum (take k (months long)) = rw h at months-are in
+      (e, rw e months-most)
+
+  -- without it
+  pub as-long : (long && leb 2 k) ≡ false → (getD table k 0 ≡ sum (take k (months long))) × (getD table k 0 ≤ 366)
+  as-long h =
+      let e : getD table k 0 ≡ sum (take k (months long)) = rw h at months-are in
+      (e, rw e months-most)
+
+pub table-most : (k : ℕ) → k ≤ 12 → getD table k 0 ≤ 366
+table-most k u = as-long false k u refl .1
+
+-- ---- the month that a day of a year falls in
+
+-- the months that are over
+abbrev pub overOf : Bool → ℕ → ℕ
+overOf long r = cond (leb (sum (take (r / 32 + 1) (months long))) r) (r / 32 + 1) (r / 32)
+
+abbrev inMonth : Bool → ℕ → Bool
+inMonth long r = leb (sum (take (overOf long r) (months long))) r && (ltb r (sum (take (suc (overOf long r)) (months long))) && leb (overOf long r) 11)
+
+months-found : (long : Bool) → first (λ r. need (inMonth long r) 0 0 0) 0 (sum (months long)) ≡ accepted
+unfolding first sum months
+months-found true = refl
+months-found false = refl
+
+-- so many are over, and the next one is not
+abbrev pub Over : Bool → ℕ → ℕ → Type 0
+Over long r over = (sum (take over (months long)) ≤ r) × ((r < sum (take (suc over) (months long))) × (over ≤ 11))
+
+module _ (long : Bool) (r : ℕ) (u : r < sum (months long)) where
+  found : Over long r (overOf long r)
+  found =
+      let l = sum (take (overOf long r) (months long)) in
+      let n = sum (take (suc (overOf long r)) (months long)) in
+      let h = and-T (leb l r) (ltb r n && leb (overOf long r) 11) .0 (each-passes (inMonth long) 0 (sum (months long)) (months-found long) r (omega arith) (omega arith)) in
+      let k = and-T (ltb r n) (leb (overOf long r) 11) .0 (h .1) in
+      (leb→le l r (h .0), (ltb→lt r n (k .0), leb→le (overOf long r) 11 (k .1)))
+
+  module _ {days : ℕ} (e : days ≡ sum (take (r / 32 + 1) (months long))) where
+    pub next-month : days ≤ r → Over long r (r / 32 + 1)
+    next-month h = rw (le-leb (sum (take (r / 32 + 1) (months long))) r (rw (sym e) h)) at found
+
+    pub this-month : r < days → Over long r (r / 32)
+    this-month h = rw (lt-leb (sum (take (r / 32 + 1) (months long))) r (rw (sym e) h)) at found
+
+pub year-long : (long : Bool) → sum (months long) ≡ cond long 366 365
+unfolding sum months
+year-long true = refl
+year-long false = refl
+
+pub year-most : (long : Bool) → sum (months long) ≤ 366
+year-most long = rw (year-long long) (most long)
+  where
+    most : (long : Bool) → cond long 366 365 ≤ 366
+    most true = omega arith
+    most false = omega arith

@@ -1,0 +1,3 @@
+mod Units
+mod Days
+pub mod Dates
