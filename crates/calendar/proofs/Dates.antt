@@ -14,7 +14,7 @@ use Rattle.layout.proofs.Sound.{getD-map-upto}
 use Rattle.calendar.specs.declared.Date.{Date}
 use Rattle.calendar.specs.Calendar.{leap, months, daysOfMonth, daysOfYear, years, validDate, daysBefore}
 use Rattle.calendar.proofs.Units.{one-more, over-before}
-use Rattle.calendar.proofs.Days.{every-fourth, years-are, year-long}
+use Rattle.calendar.proofs.Days.{every-fourth, years-are, year-long, month-long}
 
 -- what is so of a date of the range
 pub record Dated (d : Date) : Type 0 where
@@ -43,10 +43,14 @@ module _ (y m : ℕ) (l : 1 ≤ m) where
   unfolding daysOfMonth
   month-is = let e : suc (m - 1) ≡ m = omega arith in rw e at (one-more (months (leap y)) (m - 1))
 
+pub day-most : (d : Date) → Dated d → d .day ≤ 31
+unfolding daysOfMonth
+day-most d v = omega (arith, v .days, month-long (leap (d .year)) (d .month - 1) (omega (arith, v .december)))
+
 -- ---- the days before a date
 
 -- a year of the range, by its place in it
-year-at : (y : ℕ) → 1980 ≤ y → y ≤ 2099 → getD years (y - 1980) 0 ≡ daysOfYear y
+pub year-at : (y : ℕ) → 1980 ≤ y → y ≤ 2099 → getD years (y - 1980) 0 ≡ daysOfYear y
 unfolding years
 year-at y l u = let e : 1980 + (y - 1980) ≡ y = omega arith in getD-map-upto daysOfYear 0 1980 120 (y - 1980) (omega arith) ∙ ap daysOfYear e
 

@@ -127,3 +127,12 @@ year-most long = rw (year-long long) (most long)
     most : (long : Bool) → cond long 366 365 ≤ 366
     most true = omega arith
     most false = omega arith
+
+-- no month has more than 31 days
+months-long : (long : Bool) → first (λ k. need (leb (getD (months long) k 0) 31) 0 0 0) 0 12 ≡ accepted
+unfolding first months
+months-long true = refl
+months-long false = refl
+
+pub month-long : (long : Bool) (k : ℕ) → k ≤ 11 → getD (months long) k 0 ≤ 31
+month-long long k u = leb→le (getD (months long) k 0) 31 (each-passes (λ k. leb (getD (months long) k 0) 31) 0 12 (months-long long) k (omega arith) (omega arith))

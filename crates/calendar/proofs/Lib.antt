@@ -1,3 +1,5 @@
 mod Units
-mod Days
+pub mod Days
 pub mod Dates
+pub mod Order
+pub mod Cases

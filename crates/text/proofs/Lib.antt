@@ -2,5 +2,5 @@ pub mod Tests
 pub mod Runs
 pub mod Parts
 mod Names
-mod Numbers
+pub mod Numbers
 pub mod Laws

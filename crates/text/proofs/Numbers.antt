@@ -84,7 +84,7 @@ number-is b at width m h l e =
 
 -- ---- ten digits, and twenty
 
-with-digit : (m x : ℕ) (xs : List ℕ) → T (fits digit x) → digits m (x ∷ xs) ≡ digits (m * 10 + (x - 48)) xs
+pub with-digit : (m x : ℕ) (xs : List ℕ) → T (fits digit x) → digits m (x ∷ xs) ≡ digits (m * 10 + (x - 48)) xs
 unfolding digits
 with-digit m x xs d = ap (λ (v : ℕ). digits v xs) (go (λ e. let k = digit-bounds x d in omega (arith, k .0)))
   where
@@ -104,11 +104,11 @@ module _ (b : List ℕ) where
       rw (suc-add n k, part-suc at (n + k) (omega arith), part-suc at n (omega arith))
       (digits-split n (suc at) mid k (cond (eqb (getD b at 0) 46) m (m * 10 + (getD b at 0 - 48))) (omega arith) h)
 
-  digits-none : (at m : ℕ) → digits m (part b at 0) ≡ m
+  pub digits-none : (at m : ℕ) → digits m (part b at 0) ≡ m
   unfolding digits part
   digits-none at m = refl
 
-  digit-first : (n at m : ℕ) → at < length b → T (fits digit (byteAt b at)) → digits m (part b at (suc n)) ≡ digits (m * 10 + (getD b at 0 - 48)) (part b (suc at) n)
+  pub digit-first : (n at m : ℕ) → at < length b → T (fits digit (byteAt b at)) → digits m (part b at (suc n)) ≡ digits (m * 10 + (getD b at 0 - 48)) (part b (suc at) n)
   unfolding byteAt
   digit-first n at m l d = rw (part-suc at n l) (with-digit m (getD b at 0) _ d)
 
@@ -127,7 +127,7 @@ module _ (b : List ℕ) where
           rw (q, add-mul (m * 10) d w, mul-assoc m 10 w, mul-comm 10 w) (add-assoc (m * (w * 10)) (d * w) r)
 
   -- digits behind others
-  in-two : (n at mid k : ℕ) → mid ≡ at + n → mid + k ≤ length b → AllDigits b mid k → digits 0 (part b at (n + k)) ≡ digits 0 (part b at n) * 10 ^ k + digits 0 (part b mid k)
+  pub in-two : (n at mid k : ℕ) → mid ≡ at + n → mid + k ≤ length b → AllDigits b mid k → digits 0 (part b at (n + k)) ≡ digits 0 (part b at n) * 10 ^ k + digits 0 (part b mid k)
   in-two n at mid k e l h = digits-split n at mid k 0 e l ∙ digits-behind k mid (digits 0 (part b at n)) l h
 
   pub pair-is : (at x y : ℕ) → at + 2 ≤ length b → AllDigits b at 2 → x ≡ getD b at 0 - 48 → y ≡ getD b (at + 1) 0 - 48 → x * 10 + y ≡ digits 0 (part b at 2)

@@ -162,7 +162,8 @@ fn is_digit(x: u8) -> bool
     (48 <= x) & (x <= 57)
 }
 
-fn digits_in(p: &[u8], at: usize, n: usize) -> bool
+// The n bytes from `at` on are digits.
+pub fn digits_in(p: &[u8], at: usize, n: usize) -> bool
     requires { ⌜ at + n ≤ length (now p) ⌝ }
     ensures { λ r. ⌜ r ≡ not (some (fails (fits digit) (now (p .entry))) at n) ⌝ }
 {
@@ -257,7 +258,7 @@ fn value_of(x: u8) -> u64
     x as u64 - 48
 }
 
-fn two_digits(p: &[u8], at: usize) -> u64
+pub fn two_digits(p: &[u8], at: usize) -> u64
     requires { ⌜ (at + 2 ≤ length (now p)) × AllDigits (now p) at 2 ⌝ }
     ensures { λ r. ⌜ (r ≡ digits 0 (part (now (p .entry)) at 2)) × (r < 10 ^ 2) ⌝ }
 {

@@ -1,0 +1,209 @@
+-- A moment's text is of the form that the code tests and is read as that moment; a text of the form is the text of the moment that it is read as.
+-- Assumes nothing.
+use Prim.Native.Nat.{ℕ, zero, suc, _+_, _*_, _-_, _/_, _%_, _^_, _≤_, _<_}
+use mathlib.Core.Bool.{Bool, true, false, _&&_, not}
+use mathlib.Core.List.{List, [], _∷_, _++_}
+use mathlib.Core.Path.{_≡_, refl, sym, ap, _∙_}
+use native.Mathlib.Omega.{arith}
+use lib.Dec.{T, eqb, eqb→eq}
+use lib.ListN.{length, take, drop, getD}
+use lib.Seq.{take-all}
+use Rattle.layout.specs.Bytes.{bytes, part, byteAt}
+use Rattle.layout.specs.Search.{some}
+use Rattle.layout.specs.Text.{digit, fits, digits}
+use Rattle.layout.proofs.Laws.{and-T}
+use Rattle.layout.proofs.Tests.{is-true}
+use Rattle.text.specs.Runs.{fails}
+use Rattle.text.specs.Numbers.{AllDigits}
+use Rattle.text.proofs.Numbers.{all-digits}
+use Rattle.calendar.specs.declared.Date.{Date}
+use Rattle.times.specs.declared.Moment.{Moment}
+use Rattle.times.specs.Times.{inDigits, monthName, dateText, clockText, textOf, monthIn, dateIn, momentIn}
+use Rattle.times.specs.Formed.{areDigits, isByte, dateFormed, clockFormed, formed}
+use Rattle.times.proofs.Digits.{number-back, digit-fits, part-last, digits-back, part-join}
+use Rattle.times.proofs.Months.{letters, lettersOf, name-spelled, month-back, name-back}
+
+-- ---- the 27 bytes one by one
+
+-- with the month's letters
+abbrev spelled : ℕ → ℕ → ℕ → Moment → List ℕ
+spelled a b c m =
+    inDigits 2 (m .date .day) ++ 45 ∷ a ∷ b ∷ c ∷ 45 ∷ inDigits 4 (m .date .year) ++ 32 ∷ inDigits 2 (m .hour) ++ 58 ∷ inDigits 2 (m .minute)
+    ++ 58 ∷ inDigits 2 (m .second) ++ 46 ∷ inDigits 6 (m .microsecond)
+
+abbrev spelledOut : Moment → List ℕ
+spelledOut m = spelled (getD letters (3 * (m .date .month - 1)) 0) (getD letters (3 * (m .date .month - 1) + 1) 0) (getD letters (3 * (m .date .month - 1) + 2) 0) m
+
+module _ (m : Moment) (january : 1 ≤ m .date .month) (december : m .date .month ≤ 12) where
+  pub is-spelled : textOf m ≡ spelledOut m
+  unfolding textOf dateText clockText inDigits
+  is-spelled = rw (name-spelled (m .date .month) january december)
+
+  pub text-long : length (textOf m) ≡ 27
+  unfolding inDigits
+  text-long = rw is-spelled
+
+  -- as the code writes them
+  pub as-written : (48 + m .date .day / 10 % 10) ∷ (48 + m .date .day % 10) ∷ 45
+      ∷ getD letters (3 * (m .date .month - 1)) 0 ∷ getD letters (3 * (m .date .month - 1) + 1) 0 ∷ getD letters (3 * (m .date .month - 1) + 2) 0 ∷ 45
+      ∷ (48 + m .date .year / 1000 % 10) ∷ (48 + m .date .year / 100 % 10) ∷ (48 + m .date .year / 10 % 10) ∷ (48 + m .date .year % 10) ∷ 32
+      ∷ (48 + m .hour / 10 % 10) ∷ (48 + m .hour % 10) ∷ 58 ∷ (48 + m .minute / 10 % 10) ∷ (48 + m .minute % 10) ∷ 58
+      ∷ (48 + m .second / 10 % 10) ∷ (48 + m .second % 10) ∷ 46
+      ∷ (48 + m .microsecond / 100000 % 10) ∷ (48 + m .microsecond / 10000 % 10) ∷ (48 + m .microsecond / 1000 % 10)
+      ∷ (48 + m .microsecond / 100 % 10) ∷ (48 + m .microsecond / 10 % 10) ∷ (48 + m .microsecond % 10) ∷ [] ≡ textOf m
+  unfolding inDigits
+  as-written =
+      let hundred : (n : ℕ) → n / 100 ≡ n / 10 / 10 = λ n. omega arith in
+      let thousand : (n : ℕ) → n / 1000 ≡ n / 10 / 10 / 10 = λ n. omega arith in
+      let ten-thousand : (n : ℕ) → n / 10000 ≡ n / 10 / 10 / 10 / 10 = λ n. omega arith in
+      let hundred-thousand : (n : ℕ) → n / 100000 ≡ n / 10 / 10 / 10 / 10 / 10 = λ n. omega arith in
+      rw (is-spelled, hundred (m .date .year), thousand (m .date .year), hundred (m .microsecond), thousand (m .microsecond), ten-thousand (m .microsecond), hundred-thousand (m .microsecond))
+
+  -- ---- it is formed
+
+  date-formed : dateFormed (textOf m) ≡ true
+  unfolding dateFormed areDigits isByte some fails byteAt inDigits
+  date-formed = rw is-spelled (simp digit-fits refl)
+
+  clock-formed : clockFormed (textOf m) ≡ true
+  unfolding clockFormed areDigits isByte some fails byteAt inDigits
+  clock-formed = rw is-spelled (simp digit-fits refl)
+
+  pub is-formed : formed (textOf m) ≡ true
+  unfolding formed
+  is-formed = rw (date-formed, clock-formed)
+
+  -- ---- it is read as the moment
+
+  part-day : part (textOf m) 0 2 ≡ inDigits 2 (m .date .day)
+  unfolding part inDigits
+  part-day = rw is-spelled
+
+  part-month : part (textOf m) 3 3 ≡ monthName (m .date .month)
+  unfolding part inDigits
+  part-month = rw (is-spelled, name-spelled (m .date .month) january december)
+
+  part-year : part (textOf m) 7 4 ≡ inDigits 4 (m .date .year)
+  unfolding part inDigits
+  part-year = rw is-spelled
+
+  part-hour : part (textOf m) 12 2 ≡ inDigits 2 (m .hour)
+  unfolding part inDigits
+  part-hour = rw is-spelled
+
+  part-minute : part (textOf m) 15 2 ≡ inDigits 2 (m .minute)
+  unfolding part inDigits
+  part-minute = rw is-spelled
+
+  part-second : part (textOf m) 18 2 ≡ inDigits 2 (m .second)
+  unfolding part inDigits
+  part-second = rw is-spelled
+
+  part-microsecond : part (textOf m) 21 6 ≡ inDigits 6 (m .microsecond)
+  unfolding part inDigits
+  part-microsecond = rw is-spelled
+
+  module _ (day : m .date .day < 100) (year : m .date .year < 10000) (hour : m .hour < 100) (minute : m .minute < 100) (second : m .second < 100)
+      (microsecond : m .microsecond < 1000000) where
+    pub moment-back : momentIn (textOf m) ≡ m
+    unfolding momentIn dateIn
+    moment-back = λ j. record {
+      date = record {
+        year = (ap (digits 0) part-year ∙ number-back 4 (m .date .year) year) j;
+        month = (ap monthIn part-month ∙ month-back (m .date .month) january december) j;
+        day = (ap (digits 0) part-day ∙ number-back 2 (m .date .day) day) j;
+      };
+      hour = (ap (digits 0) part-hour ∙ number-back 2 (m .hour) hour) j;
+      minute = (ap (digits 0) part-minute ∙ number-back 2 (m .minute) minute) j;
+      second = (ap (digits 0) part-second ∙ number-back 2 (m .second) second) j;
+      microsecond = (ap (digits 0) part-microsecond ∙ number-back 6 (m .microsecond) microsecond) j;
+    }
+
+-- ---- a text of the form, read
+
+-- what is so of its bytes
+pub record Form (t : List ℕ) : Type 0 where
+  pub day : AllDigits t 0 2
+  pub dash : byteAt t 2 ≡ 45
+  pub second-dash : byteAt t 6 ≡ 45
+  pub year : AllDigits t 7 4
+  pub blank : byteAt t 11 ≡ 32
+  pub hour : AllDigits t 12 2
+  pub colon : byteAt t 14 ≡ 58
+  pub minute : AllDigits t 15 2
+  pub second-colon : byteAt t 17 ≡ 58
+  pub second : AllDigits t 18 2
+  pub point : byteAt t 20 ≡ 46
+  pub microsecond : AllDigits t 21 6
+
+module _ (t : List ℕ) where
+  digits-told : (at n : ℕ) → T (areDigits t at n) → AllDigits t at n
+  unfolding areDigits
+  digits-told at n h = all-digits t at n (not (some (fails (fits digit) t) at n)) refl (is-true (not (some (fails (fits digit) t) at n)) h)
+
+  byte-told : (at x : ℕ) → T (isByte t at x) → byteAt t at ≡ x
+  unfolding isByte
+  byte-told at x h = eqb→eq (byteAt t at) x h
+
+  pub form : T (formed t) → Form t
+  unfolding formed dateFormed clockFormed
+  form h =
+      let r = simp and-T at h in
+      record {
+        day = digits-told 0 2 (r .0 .0 .0 .0 .0);
+        dash = byte-told 2 45 (r .0 .0 .0 .0 .1);
+        second-dash = byte-told 6 45 (r .0 .0 .0 .1);
+        year = digits-told 7 4 (r .0 .0 .1);
+        blank = byte-told 11 32 (r .0 .1);
+        hour = digits-told 12 2 (r .1 .0 .0 .0 .0 .0 .0);
+        colon = byte-told 14 58 (r .1 .0 .0 .0 .0 .0 .1);
+        minute = digits-told 15 2 (r .1 .0 .0 .0 .0 .1);
+        second-colon = byte-told 17 58 (r .1 .0 .0 .0 .1);
+        second = digits-told 18 2 (r .1 .0 .0 .1);
+        point = byte-told 20 46 (r .1 .0 .1);
+        microsecond = digits-told 21 6 (r .1 .1);
+      }
+
+  module _ (long : length t ≡ 27) where
+    -- a part, and the byte behind it
+    byte-behind : (at n x : ℕ) → at + suc n ≤ 27 → byteAt t (at + n) ≡ x → part t at n ++ x ∷ [] ≡ part t at (suc n)
+    unfolding byteAt
+    byte-behind at n x u e = rw (← e) (sym (part-last t at n (omega arith)))
+
+    whole : part t 0 27 ≡ t
+    unfolding part
+    whole = take-all 27 t (omega arith)
+
+    module _ (f : Form t) (december : monthIn (part t 3 3) ≤ 12) where
+      date-back : dateText (momentIn t .date) ≡ part t 0 11
+      unfolding dateText momentIn dateIn
+      date-back =
+          rw (
+            digits-back t 2 0 (omega arith) (f .day),
+            byte-behind 0 2 45 (omega arith) (f .dash),
+            name-back (part t 3 3) december,
+            part-join t 0 3 3,
+            byte-behind 0 6 45 (omega arith) (f .second-dash),
+            digits-back t 4 7 (omega arith) (f .year),
+            part-join t 0 7 4,
+          )
+
+      clock-back : clockText (momentIn t) ≡ part t 12 15
+      unfolding clockText momentIn
+      clock-back =
+          rw (
+            digits-back t 2 12 (omega arith) (f .hour),
+            byte-behind 12 2 58 (omega arith) (f .colon),
+            digits-back t 2 15 (omega arith) (f .minute),
+            part-join t 12 3 2,
+            byte-behind 12 5 58 (omega arith) (f .second-colon),
+            digits-back t 2 18 (omega arith) (f .second),
+            part-join t 12 6 2,
+            byte-behind 12 8 46 (omega arith) (f .point),
+            digits-back t 6 21 (omega arith) (f .microsecond),
+            part-join t 12 9 6,
+          )
+
+      pub text-back : textOf (momentIn t) ≡ t
+      unfolding textOf
+      text-back = rw (date-back, byte-behind 0 11 32 (omega arith) (f .blank), clock-back, part-join t 0 12 15) whole
