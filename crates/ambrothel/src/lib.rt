@@ -4,6 +4,8 @@ use extinction_words::put_model;
 use extinction_words::put_pixel;
 use layout::Directory;
 use layout::Verdict;
+use time_words::put_time;
+use time_words::put_whole_text;
 use words::ROOM_TOO_SHORT;
 use words::WRITTEN;
 use words::put_directory_numbers;
@@ -23,6 +25,8 @@ ghost use Rattle.words.specs.Lent.{OneRoom};
 ghost use Rattle.words.specs.Rooms.{PartRooms, PointRooms};
 ghost use Rattle.extinction.specs.Extinction.{pixelReply};
 ghost use Rattle.extinction_words.specs.PixelWords.{PixelRooms};
+ghost use Rattle.times.specs.Times.{timeOfText};
+ghost use Rattle.time_words.specs.TimeWords.{timeWords, TextRooms};
 ghost use Rattle.ambrothel.specs.Calls.{DirectoryCall, HeaderCall};
 
 #[no_mangle]
@@ -193,4 +197,29 @@ pub extern "C" fn ambrothel_extinction_at(
     put_pixel(words, answer);
     put_model(model, answer);
     WRITTEN
+}
+
+#[no_mangle]
+pub extern "C" fn ambrothel_time_of_text(text: &[u8], words: &mut [u64]) -> u32
+    ensures { λ r. ⌜ OneRoom (timeWords (timeOfText (now (text .entry)))) (now (words .entry)) (now (words .exit)) r ⌝ }
+{
+    if words.len() < 7 {
+        return ROOM_TOO_SHORT;
+    }
+    put_time(words, times::time_of_text(text));
+    WRITTEN
+}
+
+#[no_mangle]
+pub extern "C" fn ambrothel_text_of_time(
+    days: i32,
+    seconds: u32,
+    microseconds: u32,
+    words: &mut [u64],
+    text: &mut [u8],
+) -> u32
+    ensures { λ r. ⌜ TextRooms (record { days = days; seconds = seconds; microseconds = microseconds }) (now (words .entry)) (now (words .exit)) (now (text .entry)) (now (text .exit)) r ⌝ }
+{
+    let answer = times::text_of_time(days, seconds, microseconds);
+    put_whole_text(answer, words, text)
 }
