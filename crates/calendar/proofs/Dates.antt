@@ -14,7 +14,7 @@ use Rattle.layout.proofs.Sound.{getD-map-upto}
 use Rattle.calendar.specs.declared.Date.{Date}
 use Rattle.calendar.specs.Calendar.{leap, months, daysOfMonth, daysOfYear, years, validDate, daysBefore}
 use Rattle.calendar.proofs.Units.{one-more, over-before}
-use Rattle.calendar.proofs.Days.{every-fourth, years-are, year-long, month-long}
+use Rattle.calendar.proofs.Days.{every-fourth, years-are, year-long, month-long, overOf, found}
 
 -- what is so of a date of the range
 pub record Dated (d : Date) : Type 0 where
@@ -173,3 +173,14 @@ rest-short n long u e = rw (year-long long) (go long (every-fourth (1980 + 4 * n
         let k : (4 * n / 1461 % 4 ≡ 0 → ⊥) = λ z. eqb-false ((1980 + 4 * n / 1461) % 4) 0 h (same-fourth (4 * n / 1461) z) in
         let e : 4 * (4 * n / 1461 / 4) + 4 * n / 1461 % 4 ≡ 4 * n / 1461 = omega arith in
         rw e at (common-short n (4 * n / 1461 / 4) (4 * n / 1461 % 4) (omega arith) k (rw e (omega arith)))
+
+-- each count of days of the range has a date
+pub date-with : (n : ℕ) → n < 43830 → (d : Date) × (T (validDate d) × (daysBefore d ≡ n))
+date-with n u =
+    let k = 4 * n / 1461 in
+    let r = n - (1461 * k + 3) / 4 in
+    let long = leap (1980 + k) in
+    let o = overOf long r in
+    let f = found long r (rest-short n long u refl) in
+    let d = date-is k o (sum (take o (months long))) r (omega arith) refl (f .0) (f .1 .0) (f .1 .1) in
+    (dateAt k o (sum (take o (months long))) r (omega arith) refl (f .0) (f .1 .0) (f .1 .1), (d .0, d .1 ∙ omega arith))

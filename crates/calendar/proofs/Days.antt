@@ -101,7 +101,7 @@ abbrev pub Over : Bool → ℕ → ℕ → Type 0
 Over long r over = (sum (take over (months long)) ≤ r) × ((r < sum (take (suc over) (months long))) × (over ≤ 11))
 
 module _ (long : Bool) (r : ℕ) (u : r < sum (months long)) where
-  found : Over long r (overOf long r)
+  pub found : Over long r (overOf long r)
   found =
       let l = sum (take (overOf long r) (months long)) in
       let n = sum (take (suc (overOf long r)) (months long)) in

@@ -5,4 +5,7 @@ mod Numbers
 mod Reading
 mod Moments
 mod Said
-mod Answers
+pub mod Answers
+mod Order
+pub mod Promises
+mod Cases

@@ -13,7 +13,7 @@ use Rattle.calendar.specs.Calendar.{validDate, dayNumber}
 use Rattle.calendar.proofs.Dates.{Dated, dated, day-most, before-short}
 use Rattle.times.specs.declared.Moment.{Moment}
 use Rattle.times.specs.Times.{validMoment, timeOf, validTime}
-use Rattle.times.proofs.Numbers.{Timed, is-timed, number-range}
+use Rattle.times.proofs.Numbers.{Timed, is-timed, number-range, day-with}
 
 -- what is so of a valid moment
 pub record Valid (m : Moment) : Type 0 where
@@ -60,6 +60,12 @@ module _ (t : Time) (r : Timed t) (d : Date) (date : T (validDate d)) (number : 
   pub found-time : timeOf found ≡ t
   unfolding timeOf
   found-time = λ j. record { days = number j; seconds = whole-day (t .seconds) j; microseconds = t .microseconds }
+
+-- each time of the range has one
+pub moment-with : (t : Time) → Timed t → (m : Moment) × (T (validMoment m) × (timeOf m ≡ t))
+moment-with t r =
+    let day = day-with (t .days) (r .range) in
+    (found t r (day .0) (day .1 .0) (day .1 .1), (found-valid t r (day .0) (day .1 .0) (day .1 .1), found-time t r (day .0) (day .1 .0) (day .1 .1)))
 
 -- a moment's time, from its day's number
 pub time-is : (m : Moment) (z : ℤ) → z ≡ dayNumber (m .date) → _≡_ {A = Time} (record { days = z; seconds = 3600 * m .hour + 60 * m .minute + m .second; microseconds = m .microsecond }) (timeOf m)

@@ -15,7 +15,8 @@ use Rattle.layout.specs.Search.{sum}
 use Rattle.layout.proofs.Laws.{and-T}
 use Rattle.layout.specs.declared.Time.{Time}
 use Rattle.calendar.specs.declared.Date.{Date}
-use Rattle.calendar.specs.Calendar.{leap, months, daysOfYear, years, daysBefore, dayZero, dayNumber}
+use Rattle.calendar.specs.Calendar.{leap, months, daysOfYear, years, validDate, daysBefore, dayZero, dayNumber}
+use Rattle.calendar.proofs.Dates.{date-with}
 use Rattle.calendar.proofs.Cases.{first-day, last-day}
 use Rattle.times.specs.Times.{validTime}
 
@@ -72,6 +73,10 @@ range-count (negsuc n) h =
     let l : n ≤ 7304 = leb→le n 7304 (and-T (leb n 7304) true .0 h .0) in
     rw (le-ltb 7305 (suc n) (omega arith)) (omega arith, tt)
 
+number-of : (z : ℤ) (d : Date) → pos (daysBefore d) ≡ z +ℤ pos 7305 → dayNumber d ≡ z
+unfolding dayNumber
+number-of z d e = ap (λ (y : ℤ). y -ℤ pos (daysBefore dayZero)) e ∙ ap (λ (n : ℕ). (z +ℤ pos 7305) -ℤ pos n) days-to-2000 ∙ +ℤ-negℤ-cancel z (pos 7305)
+
 plus-fits : (z : ℤ) → T (nonNeg z) → natAbs z < 43830 → SFits w32 z
 plus-fits (pos n) h l = record { sfits = omega arith }
 plus-fits (negsuc n) h l = absurd h
@@ -94,10 +99,14 @@ module _ (z : ℤ) (fits : SFits w32 z) (range : T (leZ (negsuc 7304) z && leZ z
 
   -- the day with so many days before it has this number
   pub day-is : (d : Date) → daysBefore d ≡ natAbs (toZ w32 (ofZ w32 (toZ w32 (ofZ w32 z) +ℤ pos 7305))) → dayNumber d ≡ z
-  unfolding dayNumber
-  day-is d e =
-      let f : pos (daysBefore d) ≡ z +ℤ pos 7305 = ap pos (e ∙ ap natAbs sum-is) ∙ pos-natAbs (z +ℤ pos 7305) (counted .1) in
-      ap (λ (y : ℤ). y -ℤ pos (daysBefore dayZero)) f ∙ ap (λ (n : ℕ). (z +ℤ pos 7305) -ℤ pos n) days-to-2000 ∙ +ℤ-negℤ-cancel z (pos 7305)
+  day-is d e = number-of z d (ap pos (e ∙ ap natAbs sum-is) ∙ pos-natAbs (z +ℤ pos 7305) (counted .1))
+
+-- each number of the range is a day's
+pub day-with : (z : ℤ) → T (leZ (negsuc 7304) z && leZ z (pos 36524)) → (d : Date) × (T (validDate d) × (dayNumber d ≡ z))
+day-with z range =
+    let c = range-count z range in
+    let d = date-with (natAbs (z +ℤ pos 7305)) (c .0) in
+    (d .0, (d .1 .0, number-of z (d .0) (ap pos (d .1 .1) ∙ pos-natAbs (z +ℤ pos 7305) (c .1))))
 
 -- ---- from the days before a day to its number
 

@@ -38,7 +38,7 @@ module _ (t : List ℕ) (h : T (validText t)) where
   pub text-is : t ≡ textOf (momentIn t)
   text-is = same-is t (textOf (momentIn t)) (both .1)
 
-  valid-long : length t ≡ 27
+  pub valid-long : length t ≡ 27
   valid-long = ap length text-is ∙ text-long (momentIn t) (text-valid .date .january) (text-valid .date .december)
 
   valid-formed : formed t ≡ true
