@@ -18,6 +18,7 @@ pub mod settings;
 mod sph_lines;
 mod states;
 mod text;
+mod times;
 pub mod vectors;
 pub mod words;
 
@@ -29,6 +30,7 @@ pub use listing::{listing, LONGEST_LISTED};
 pub use main_header::HeaderValues;
 pub use refusal::{Refusal, Verdict, NO_ENTRY};
 pub use sets::NO_RANK;
+pub use times::{text_of_time, time_of_text, TIME_TEXT};
 
 use judged::Judged;
 use layout::MAIN_HEADER_SIZE;

@@ -1,12 +1,14 @@
 //! The answers of the public calls laid out for C, as `include/ambrothel.h` describes them: words, bytes and
 //! doubles.
 
+use crate::times::write_text;
 use crate::{
     directory, extinction, field, header_values, judge, point, record_part, record_place, sph_part,
-    sph_place,
+    sph_place, time_of_text,
 };
 use crate::{
     Directory, FieldAnswer, HeaderValues, Part, Pixel, Point, Refusal, Time, Verdict, ENTRIES,
+    TIME_TEXT,
 };
 
 pub const VERDICT_WORDS: usize = 3;
@@ -21,8 +23,11 @@ pub const HEADER_WORDS: usize = 25;
 pub const HEADER_TEXTS: usize = 289;
 pub const DIRECTORY_WORDS: usize = 772;
 pub const DIRECTORY_TEXTS: usize = 11_520;
+pub const TIME_WORDS: usize = 7;
+pub const TIME_TEXT_WORDS: usize = 3;
 
-/// A public call with all that is asked but the product.
+/// A public call with all that is asked but the bytes that it reads: a product; of `TimeOfText` the text, and of
+/// `TextOfTime` none.
 #[derive(Clone, Copy, Debug, PartialEq, Eq)]
 pub enum Call {
     Judge,
@@ -35,6 +40,8 @@ pub enum Call {
     FieldAt { entry: usize, record: usize, offset: usize, kind: usize },
     PointAt { entry: usize, record: usize, offsets: [usize; 3] },
     ExtinctionAt { record: usize, pixel: usize },
+    TimeOfText,
+    TextOfTime { time: Time },
 }
 
 /// What a call writes into the rooms it is lent; a room that the call does not have is empty here.
@@ -72,6 +79,8 @@ impl Call {
             Call::ExtinctionAt { record, pixel } => {
                 extinction_answer(extinction(product, record as u64, pixel as u64))
             }
+            Call::TimeOfText => Answer::of_words(&time_of_text_words(product)),
+            Call::TextOfTime { time } => text_of_time_answer(time),
         }
     }
 }
@@ -85,8 +94,7 @@ impl Answer {
     fn refused(refusal: Refusal, words: usize, bytes: usize, doubles: usize) -> Answer {
         let mut answer =
             Answer { words: vec![0; words], bytes: vec![0; bytes], double_bits: vec![0; doubles] };
-        let Refusal { number, place, entry } = refusal;
-        answer.words[..3].copy_from_slice(&[u64::from(number), place, entry as u64]);
+        answer.words[..3].copy_from_slice(&refusal_words(refusal));
         answer
     }
 }
@@ -198,6 +206,54 @@ fn extinction_answer(answered: Result<Pixel, Refusal>) -> Answer {
     let (code, flag) = (u64::from(pixel.model_code), u64::from(pixel.flag));
     let words = [0, 0, 0, days, seconds, microseconds, quality, transmission, covariance, code, flag];
     Answer { words: words.to_vec(), bytes: Vec::new(), double_bits: vec![pixel.model.to_bits()] }
+}
+
+/// The words of a text's time: the refusal, whether it is a time (1) or not given (2), and the time.
+#[inline]
+fn time_of_text_words(text: &[u8]) -> [u64; TIME_WORDS] {
+    match time_of_text(text) {
+        Ok(Some(time)) => {
+            let [days, seconds, microseconds] = time_words(time);
+            [0, 0, 0, 1, days, seconds, microseconds]
+        }
+        Ok(None) => [0, 0, 0, 2, 0, 0, 0],
+        Err(refusal) => {
+            let [number, place, entry] = refusal_words(refusal);
+            [number, place, entry, 0, 0, 0, 0]
+        }
+    }
+}
+
+/// The answer for a text as C has it, written into a room; whether the room is long enough.
+pub fn write_time_of_text(text: &[u8], words: &mut [u64]) -> bool {
+    let Some(words) = words.first_chunk_mut() else { return false };
+    *words = time_of_text_words(text);
+    true
+}
+
+/// The answer for a time as C has it, written into rooms; whether both are long enough.
+pub fn write_text_of_time(time: Time, words: &mut [u64], text: &mut [u8]) -> bool {
+    let Some(words) = words.first_chunk_mut::<TIME_TEXT_WORDS>() else { return false };
+    let Some(text) = text.first_chunk_mut() else { return false };
+    *words = match write_text(time, text) {
+        Ok(()) => [0; TIME_TEXT_WORDS],
+        Err(refusal) => {
+            text.fill(0);
+            refusal_words(refusal)
+        }
+    };
+    true
+}
+
+fn text_of_time_answer(time: Time) -> Answer {
+    let mut answer =
+        Answer { words: vec![0; TIME_TEXT_WORDS], bytes: vec![0; TIME_TEXT], ..Answer::default() };
+    write_text_of_time(time, &mut answer.words, &mut answer.bytes);
+    answer
+}
+
+fn refusal_words(refusal: Refusal) -> [u64; 3] {
+    [u64::from(refusal.number), refusal.place, refusal.entry as u64]
 }
 
 /// Days with their sign, seconds and microseconds.

@@ -16,4 +16,5 @@ mod settings;
 mod sph_lines;
 mod states;
 mod stored;
+mod times;
 mod words;
