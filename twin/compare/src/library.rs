@@ -1,6 +1,7 @@
-//! The calls of `include/ambrothel.h`, over slices: a product that is read and rooms that are lent.
+//! The calls of `include/ambrothel.h`, over slices: a product or a text that is read and rooms that are lent.
 
 use twin::words::Call;
+use twin::Time;
 
 /// What a call returns when it has written its answer.
 pub const WRITTEN: u32 = 0;
@@ -99,12 +100,29 @@ extern "C" {
         model: *mut f64,
         model_length: usize,
     ) -> u32;
+
+    fn ambrothel_time_of_text(
+        text: *const u8,
+        text_length: usize,
+        words: *mut u64,
+        words_length: usize,
+    ) -> u32;
+
+    fn ambrothel_text_of_time(
+        days: i32,
+        seconds: u32,
+        microseconds: u32,
+        words: *mut u64,
+        words_length: usize,
+        text: *mut u8,
+        text_length: usize,
+    ) -> u32;
 }
 
 // Safety, for every call below: a slice's pointer is not null and good for its length, and the borrows keep the
-// rooms apart from the product and from each other, which is all that the header asks.
+// rooms apart from what is read and from each other, which is all that the header asks.
 
-/// A call that takes the product alone and writes words.
+/// A call that takes the product alone, or a text, and writes words.
 type Words = unsafe extern "C" fn(*const u8, usize, *mut u64, usize) -> u32;
 /// One that writes bytes beside them.
 type WordsAndBytes = unsafe extern "C" fn(*const u8, usize, *mut u64, usize, *mut u8, usize) -> u32;
@@ -211,6 +229,18 @@ pub fn extinction_at(
     }
 }
 
+pub fn time_of_text(text: &[u8], words: &mut [u64]) -> u32 {
+    ask_words(ambrothel_time_of_text, text, words)
+}
+
+pub fn text_of_time(time: Time, words: &mut [u64], text: &mut [u8]) -> u32 {
+    let Time { days, seconds, microseconds } = time;
+    let (room, text_room) = (words.as_mut_ptr(), text.as_mut_ptr());
+    unsafe {
+        ambrothel_text_of_time(days, seconds, microseconds, room, words.len(), text_room, text.len())
+    }
+}
+
 /// Asks a call, lending it those of the rooms that it has.
 pub fn ask(
     product: &[u8],
@@ -234,5 +264,7 @@ pub fn ask(
             point_at(product, entry, record, offsets, words, doubles)
         }
         Call::ExtinctionAt { record, pixel } => extinction_at(product, record, pixel, words, doubles),
+        Call::TimeOfText => time_of_text(product, words),
+        Call::TextOfTime { time } => text_of_time(time, words, bytes),
     }
 }

@@ -1,5 +1,5 @@
 //! What was met in the answers that both gave: how many were refused by which number, both sides of the count of
-//! sets, sets in another order than their entries', and the largest products.
+//! sets, sets in another order than their entries', the largest products, and times and their texts.
 
 use twin::words::{Answer, Call};
 
@@ -10,9 +10,12 @@ use crate::file_order::is_out_of_entry_order;
 pub(crate) const SPH_SIZE_WORD: usize = 21;
 /// Where the number of entries stands in the words of the directory.
 pub(crate) const ENTRIES_WORD: usize = 3;
+/// Where the words of a text's time tell a time from what is not given, and the one that says the latter.
+const TIME_CASE_WORD: usize = 3;
+const NOT_GIVEN: u64 = 2;
 
 /// Counts by refusal number; at 0, of what was not refused.
-pub type ByNumber = [u64; 25];
+pub type ByNumber = [u64; 32];
 
 #[derive(Clone, Debug, Default, PartialEq, Eq)]
 pub struct Met {
@@ -22,6 +25,10 @@ pub struct Met {
     pub verdicts: ByNumber,
     pub points_answered: u64,
     pub pixels_answered: u64,
+    /// Texts whose time was answered, those that are not given, and times whose text was answered.
+    pub times_answered: u64,
+    pub times_not_given: u64,
+    pub texts_answered: u64,
     /// Products with an empty set: accepted ones, whose NUM_DATA_SETS leaves it out, and those that are refused 11
     /// only because theirs does not.
     pub empty_sets_left_out: u64,
@@ -52,7 +59,12 @@ impl Met {
             Call::HeaderValues => self.longest_sph = self.longest_sph.max(answer.words[SPH_SIZE_WORD]),
             Call::PointAt { .. } => self.points_answered += u64::from(number == 0),
             Call::ExtinctionAt { .. } => self.pixels_answered += u64::from(number == 0),
-            Call::SphPlace | Call::RecordPlace { .. } | Call::FieldAt { .. } => {}
+            Call::TimeOfText if number == 0 => match answer.words[TIME_CASE_WORD] {
+                NOT_GIVEN => self.times_not_given += 1,
+                _ => self.times_answered += 1,
+            },
+            Call::TextOfTime { .. } => self.texts_answered += u64::from(number == 0),
+            Call::SphPlace | Call::RecordPlace { .. } | Call::FieldAt { .. } | Call::TimeOfText => {}
         }
         self.answers[number] += 1;
     }
@@ -74,6 +86,9 @@ impl Met {
         add(&mut self.verdicts, &other.verdicts);
         self.points_answered += other.points_answered;
         self.pixels_answered += other.pixels_answered;
+        self.times_answered += other.times_answered;
+        self.times_not_given += other.times_not_given;
+        self.texts_answered += other.texts_answered;
         self.empty_sets_left_out += other.empty_sets_left_out;
         self.empty_sets_counted += other.empty_sets_counted;
         self.out_of_entry_order += other.out_of_entry_order;

@@ -1,4 +1,4 @@
-//! What is said where library and twin differ: the product in a file, the call, and both answers.
+//! What is said where library and twin differ: the product in a file, or the text, the call, and both answers.
 
 use std::fmt::{Debug, Write};
 use std::fs;
@@ -28,7 +28,11 @@ pub(crate) struct Asked<'a> {
 /// The report; `expected` is the twin's answer, or none where a room was too short.
 pub(crate) fn report(asked: &Asked, rooms: &Answer, expected: Option<&Answer>) -> String {
     let mut text = String::from("the library does not answer as the twin\n");
-    text.push_str(&report_of_product(asked.origin, asked.product));
+    text.push_str(&match asked.call {
+        Call::TimeOfText => format!("  text:     {}\n", asked.product.escape_ascii()),
+        Call::TextOfTime { .. } => String::new(),
+        _ => report_of_product(asked.origin, asked.product),
+    });
     let mut say = |line: String| text.push_str(&(line + "\n"));
     say(format!("  call:     {:?}", asked.call));
     say(format!("  lent:     {:?}", asked.lengths));

@@ -14,3 +14,4 @@ mod points;
 mod random;
 mod short_rooms;
 mod spare_bytes;
+mod times;

@@ -36,7 +36,7 @@ fn too_short(needed: usize) -> Vec<usize> {
 }
 
 /// Lends each room of a call at every length that is too short, beside rooms that are long enough or not.
-fn lend_short(comparer: &mut Comparer, product: &[u8], call: Call, needed: Lengths) {
+pub fn lend_short(comparer: &mut Comparer, product: &[u8], call: Call, needed: Lengths) {
     for beside in [needed, needed.and(3)] {
         for words in too_short(needed.words) {
             comparer.refuse_rooms(product, call, Lengths { words, ..beside });
