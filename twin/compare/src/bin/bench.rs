@@ -1,14 +1,16 @@
-//! Times judge and directory, and a pixel of residual extinction, through the library and in the twin, on the same
-//! products in one run, and prints a table: the best of many rounds for each, which alternate, with product and rooms
-//! warm.
+//! Times judge and directory, a pixel of residual extinction, and times and their texts, through the library and in
+//! the twin, on the same products, texts and times in one run, and prints a table: the best of many rounds for each,
+//! which alternate, with what is read and rooms warm.
 
 use std::hint::black_box;
 use std::time::{Duration, Instant};
 
 use compare::{library, Comparer};
-use twin::builder::named_product;
-use twin::words::{Call, DIRECTORY_TEXTS, DIRECTORY_WORDS, VERDICT_WORDS};
+use twin::builder::{named_product, Generator};
+use twin::words::{write_text_of_time, write_time_of_text, Call, TIME_TEXT_WORDS, TIME_WORDS};
+use twin::words::{DIRECTORY_TEXTS, DIRECTORY_WORDS, VERDICT_WORDS};
 use twin::words::{EXTINCTION_DOUBLES, EXTINCTION_WORDS};
+use twin::{Time, TIME_TEXT};
 
 /// Rounds of each reader, and how long one round should take.
 const ROUNDS: usize = 60;
@@ -35,6 +37,11 @@ const PRODUCTS: [(&str, &str); 14] = [
 /// The product whose pixel is asked for, in the middle of its record.
 const WITH_PIXELS: &str = "GOM_EXT_2P";
 const PIXEL: usize = 1167;
+
+/// The times: so many, from 1 January 1980 to 20 November 2099, so far apart that they fall into all months.
+const TIMES: i32 = 493;
+const FIRST_DAY: i32 = -7305;
+const DAYS_APART: i32 = 89;
 
 /// The rooms of the library's answers.
 struct Rooms {
@@ -111,6 +118,69 @@ fn time_pixel(product: &[u8], rooms: &mut Rooms) -> [f64; 2] {
     best_of_both(ours, twins)
 }
 
+/// Times of any hour, the same in every run.
+fn varied_times() -> Vec<Time> {
+    let mut choices = Generator::new(7);
+    let mut draw = |index| Time {
+        days: FIRST_DAY + DAYS_APART * index,
+        seconds: choices.below(86_400) as u32,
+        microseconds: choices.below(1_000_000) as u32,
+    };
+    (0..TIMES).map(&mut draw).collect()
+}
+
+/// The texts of times, of which both have answered each way.
+fn texts_of(times: &[Time]) -> Vec<Vec<u8>> {
+    let mut comparer = Comparer::of("times of the benchmark");
+    let mut text_of = |&time| comparer.compare(&[], Call::TextOfTime { time }).bytes;
+    let texts: Vec<Vec<u8>> = times.iter().map(&mut text_of).collect();
+    for text in &texts {
+        comparer.compare(text, Call::TimeOfText);
+    }
+    assert_eq!(comparer.met().times_answered, times.len() as u64, "a time is not answered");
+    texts
+}
+
+/// The times of one text each, all texts in turn.
+fn time_texts(texts: &[Vec<u8>]) -> [f64; 2] {
+    let mut rooms = [[0; TIME_WORDS]; 2];
+    let [words, twins_words] = &mut rooms;
+    let ours = || {
+        for text in texts {
+            let returned = library::time_of_text(black_box(text), words);
+            assert_eq!(returned, library::WRITTEN);
+            black_box(&mut *words);
+        }
+    };
+    let twins = || {
+        for text in texts {
+            assert!(write_time_of_text(black_box(text), twins_words));
+            black_box(&mut *twins_words);
+        }
+    };
+    best_of_both(ours, twins).map(|all| all / texts.len() as f64)
+}
+
+/// The times of one time each, all times in turn.
+fn time_times(times: &[Time]) -> [f64; 2] {
+    let mut rooms = [([0; TIME_TEXT_WORDS], [0; TIME_TEXT]); 2];
+    let [(words, text), (twins_words, twins_text)] = &mut rooms;
+    let ours = || {
+        for time in times {
+            let returned = library::text_of_time(black_box(*time), words, text);
+            assert_eq!(returned, library::WRITTEN);
+            black_box((&mut *words, &mut *text));
+        }
+    };
+    let twins = || {
+        for time in times {
+            assert!(write_text_of_time(black_box(*time), twins_words, twins_text));
+            black_box((&mut *twins_words, &mut *twins_text));
+        }
+    };
+    best_of_both(ours, twins).map(|all| all / times.len() as f64)
+}
+
 /// The release profile of the twin's workspace, as its Cargo.toml says it.
 fn release_profile() -> String {
     let manifest = include_str!("../../../Cargo.toml");
@@ -132,9 +202,20 @@ fn print_compilers() {
     println!();
 }
 
-/// Prints a row of the table.
+/// Prints a row of the table; short times with a tenth.
 fn print_row(call: &str, title: &str, [ours, twins]: [f64; 2]) {
-    println!("{call:<10} {title:<51} {ours:>10.0} {twins:>10.0} {:>10.2}", ours / twins);
+    let tenths = usize::from(ours.min(twins) < 100.0);
+    let ratio = ours / twins;
+    println!("{call:<12} {title:<51} {ours:>10.tenths$} {twins:>10.tenths$} {ratio:>10.2}");
+}
+
+/// Prints the rows of times and their texts.
+fn time_both_ways() {
+    let times = varied_times();
+    let texts = texts_of(&times);
+    let title = format!("one of {TIMES}, from 1980 to 2099");
+    print_row("text to time", &title, time_texts(&texts));
+    print_row("time to text", &title, time_times(&times));
 }
 
 /// Prints the rows of a product; where it has pixels, answers a pixel's times by its verdict's: ours, then the twin's.
@@ -162,11 +243,9 @@ fn main() {
         texts: [0; DIRECTORY_TEXTS],
         model: [0.0; EXTINCTION_DOUBLES],
     };
-    println!(
-        "{:<10} {:<51} {:>10} {:>10} {:>10}",
-        "call", "product", "ours/ns", "twin/ns", "ours/twin"
-    );
+    println!("{:<12} {:<51} {:>10} {:>10} {:>10}", "call", "of", "ours/ns", "twin/ns", "ours/twin");
     let timed = PRODUCTS.map(|(name, title)| time_product(name, title, &mut rooms));
+    time_both_ways();
     println!();
     for [ours, twins] in timed.into_iter().flatten() {
         println!("pixel by judge on {WITH_PIXELS}: ours {ours:.2}, twin {twins:.2}");
