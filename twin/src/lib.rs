@@ -1,6 +1,7 @@
-//! A reader of Envisat products by document 01 and the orders of document 02: it checks a product, lists it, answers
-//! its header values, hands out SPH lines, records, fields and points, and the pixels of a residual extinction
-//! product. Every call judges the product first.
+//! A reader of Envisat products by document 01 and the orders of document 02: it checks a product,
+//! lists it, answers its header values, hands out SPH lines, records, fields and points, and the pixels
+//! of a residual extinction product. Every call on a product judges it first. Times and their texts
+//! stand by themselves.
 
 pub mod builder;
 mod descriptors;

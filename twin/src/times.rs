@@ -1,8 +1,9 @@
-//! Times that people can read (document 02, order 7): `01-JAN-2000 00:00:00.000000` and the time that it stands for,
-//! either way, from 1 January 1980 to 31 December 2099. Refusals 30 and 31.
+//! Times that people can read (document 02, order 7): `01-JAN-2000 00:00:00.000000` and the time that
+//! it stands for, either way, from 1 January 1980 to 31 December 2099. Refusals 30 and 31.
 //!
-//! Eight bytes of a text are read or written as one word, each byte in its lane, the first in the lowest. Four words
-//! make up a text, at places where they overlap: `DD-MMM-Y`, `YYYY hh:`, `hh:mm:ss` and `s.uuuuuu`.
+//! Eight bytes of a text are read or written as one word, each byte in its lane, the first in the
+//! lowest. Four words make up a text, at places where they overlap: `DD-MMM-Y`, `YYYY hh:`, `hh:mm:ss`
+//! and `s.uuuuuu`.
 
 use crate::fields::Time;
 use crate::refusal::Refusal;
@@ -43,8 +44,9 @@ const MONTHS: [(&[u8; 3], u16); 12] = [
 const FEBRUARY: usize = 1;
 const MARCH: usize = 2;
 
-/// The lowest and the highest byte at each place; the letters of the month are looked up instead. A digit's lowest byte
-/// has no bit in common with what it counts, so that taking it off is an exclusive or.
+/// The lowest and the highest byte at each place; the letters of the month are looked up instead. A
+/// digit's lowest byte has no bit in common with what it counts, so that taking it off is an exclusive
+/// or.
 const LOWEST: &[u8; TIME_TEXT] = b"00-\0\0\0-0000 00:00:00.000000";
 const HIGHEST: &[u8; TIME_TEXT] = b"39-\xff\xff\xff-9999 29:59:59.999999";
 
@@ -86,8 +88,8 @@ impl Word {
         word
     }
 
-    /// What the bytes count above their lowest ones, and a bit for each that is too high. A lane's sum goes on to the
-    /// next lane only where its own top bit was set, which is looked at as well.
+    /// What the bytes count above their lowest ones, and a bit for each that is too high. A lane's sum
+    /// goes on to the next lane only where its own top bit was set, which is looked at as well.
     #[inline]
     fn read(&self, text: &[u8; TIME_TEXT]) -> (u64, u64) {
         let mut bytes = [0; 8];
@@ -153,8 +155,8 @@ pub fn time_of_text(text: &[u8]) -> Result<Option<Time>, Refusal> {
     }
 }
 
-/// The time of a text, where it is one. All is worked out before anything is judged, so that a good text costs no
-/// branch for each part.
+/// The time of a text, where it is one. All is worked out before anything is judged, so that a good
+/// text costs no branch for each part.
 #[inline]
 fn time_in(text: &[u8; TIME_TEXT]) -> Option<Time> {
     let (date, bad_date) = DATE.read(text);
@@ -231,8 +233,9 @@ const fn letters_from_march() -> [u64; 12] {
     letters
 }
 
-/// Writes the date of a day, counted from 1 January 1980. Years are taken from 1 March on, the first from that of 1979,
-/// 306 days before: then the leap day is the last of its year, and five months in a row have 153 days.
+/// Writes the date of a day, counted from 1 January 1980. Years are taken from 1 March on, the first
+/// from that of 1979, 306 days before: then the leap day is the last of its year, and five months in a
+/// row have 153 days.
 #[inline]
 fn write_date(day: u32, text: &mut [u8; TIME_TEXT]) {
     let quarters = 4 * (day + 306);
@@ -245,8 +248,8 @@ fn write_date(day: u32, text: &mut [u8; TIME_TEXT]) {
     YEAR.write(text, digits(century | in_century << 16, YEAR_LANES));
 }
 
-/// The digits of numbers below 100, each number in a lane where two digits begin: its tens there, its ones in the next.
-/// Up to 99, 103/1024 is as good as a tenth.
+/// The digits of numbers below 100, each number in a lane where two digits begin: its tens there, its
+/// ones in the next. Up to 99, 103/1024 is as good as a tenth.
 #[inline]
 fn digits(numbers: u64, lanes: u64) -> u64 {
     let tens = ((numbers * 103) >> 10) & (15 * lanes);

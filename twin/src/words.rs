@@ -26,8 +26,8 @@ pub const DIRECTORY_TEXTS: usize = 11_520;
 pub const TIME_WORDS: usize = 7;
 pub const TIME_TEXT_WORDS: usize = 3;
 
-/// A public call with all that is asked but the bytes that it reads: a product; of `TimeOfText` the text, and of
-/// `TextOfTime` none.
+/// A public call with all that is asked but the bytes that it reads: a product; of `TimeOfText` the
+/// text, and of `TextOfTime` none.
 #[derive(Clone, Copy, Debug, PartialEq, Eq)]
 pub enum Call {
     Judge,

@@ -1,4 +1,5 @@
-//! The calls of `include/ambrothel.h`, over slices: a product or a text that is read and rooms that are lent.
+//! The calls of `include/ambrothel.h`, over slices: a product or a text that is read, rooms that are
+//! lent.
 
 use twin::words::Call;
 use twin::Time;

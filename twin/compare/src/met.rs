@@ -10,7 +10,7 @@ use crate::file_order::is_out_of_entry_order;
 pub(crate) const SPH_SIZE_WORD: usize = 21;
 /// Where the number of entries stands in the words of the directory.
 pub(crate) const ENTRIES_WORD: usize = 3;
-/// Where the words of a text's time tell a time from what is not given, and the one that says the latter.
+/// Where the words of a text's time tell a time from what is not given, and what says the latter.
 const TIME_CASE_WORD: usize = 3;
 const NOT_GIVEN: u64 = 2;
 

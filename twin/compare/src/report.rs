@@ -1,4 +1,5 @@
-//! What is said where library and twin differ: the product in a file, or the text, the call, and both answers.
+//! What is said where library and twin differ: the product in a file, or the text, the call, and both
+//! answers.
 
 use std::fmt::{Debug, Write};
 use std::fs;

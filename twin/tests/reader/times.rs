@@ -1,5 +1,5 @@
-//! Times and their texts, as document 02, order 7 has them: the calendar walked through day by day, what is no text of
-//! a time, and what is outside the range.
+//! Times and their texts, as document 02, order 7 has them: the calendar walked through day by day,
+//! what is no text of a time, and what is outside the range.
 
 use crate::common::{refusal, NONE};
 use twin::builder::Generator;

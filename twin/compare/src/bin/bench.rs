@@ -1,6 +1,6 @@
-//! Times judge and directory, a pixel of residual extinction, and times and their texts, through the library and in
-//! the twin, on the same products, texts and times in one run, and prints a table: the best of many rounds for each,
-//! which alternate, with what is read and rooms warm.
+//! Times judge and directory, a pixel of residual extinction, and times and their texts, through the
+//! library and in the twin, on the same products, texts and times in one run, and prints a table: the
+//! best of many rounds for each, which alternate, with what is read and rooms warm.
 
 use std::hint::black_box;
 use std::time::{Duration, Instant};
@@ -38,7 +38,8 @@ const PRODUCTS: [(&str, &str); 14] = [
 const WITH_PIXELS: &str = "GOM_EXT_2P";
 const PIXEL: usize = 1167;
 
-/// The times: so many, from 1 January 1980 to 20 November 2099, so far apart that they fall into all months.
+/// The times: so many, from 1 January 1980 to 20 November 2099, so far apart that they fall into all
+/// months.
 const TIMES: i32 = 493;
 const FIRST_DAY: i32 = -7305;
 const DAYS_APART: i32 = 89;

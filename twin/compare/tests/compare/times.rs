@@ -1,5 +1,6 @@
-//! Times and their texts (document 02, order 7), which stand in no product: every day, every date and clock of two
-//! digits each, every byte at every place, every length, random ones, and rooms of every length.
+//! Times and their texts (document 02, order 7), which stand in no product: every day, every date and
+//! clock of two digits each, every byte at every place, every length, random ones, and rooms of every
+//! length.
 
 use compare::{Comparer, Lengths, Mapping};
 use twin::builder::Generator;
@@ -96,8 +97,8 @@ fn is_in_range(time: Time) -> bool {
         && time.microseconds < MICROSECONDS
 }
 
-/// Asks for a time's text, and for the time of that, which is the same; answers both, or nothing for a time out of range,
-/// which is refused.
+/// Asks for a time's text, and for the time of that, which is the same; answers both, or nothing for a
+/// time out of range, which is refused.
 fn ask_both_ways(comparer: &mut Comparer, time: Time) -> Option<[Answer; 2]> {
     let answer = ask_time(comparer, time);
     if !is_in_range(time) {
@@ -140,8 +141,8 @@ fn every_day_is_answered_both_ways() {
     assert_eq!(outcomes, Outcomes { times, texts, out_of_range: 2400, ..NOTHING });
 }
 
-/// Days, seconds and microseconds at their edges, each beside each; some are in the range where a reader keeps only
-/// 16 bits of them, or adds without looking.
+/// Days, seconds and microseconds at their edges, each beside each; some are in the range where a
+/// reader keeps only 16 bits of them, or adds without looking.
 #[test]
 fn the_edges_of_the_range_are_told_alike() {
     let edges = [FIRST_DAY - 1, FIRST_DAY, -1, 0, 1, 59, 60, LAST_DAY, LAST_DAY + 1];
@@ -207,8 +208,8 @@ fn two_bytes_at_any_places_are_looked_at_alike() {
     assert!(outcomes.times >= 10_000 && outcomes.no_time >= 50_000, "{outcomes:?}");
 }
 
-/// Days 00 to 99 of the months of 1975 to 2105, in the order of the calendar: those that are answered are the days of
-/// the range, one after the other.
+/// Days 00 to 99 of the months of 1975 to 2105, in the order of the calendar: those that are answered
+/// are the days of the range, one after the other.
 #[test]
 fn every_date_is_told_alike() {
     let mut comparer = Comparer::default();
@@ -230,7 +231,8 @@ fn every_date_is_told_alike() {
     assert_eq!(say("all dates", &comparer), Outcomes { times: DAYS, no_time, ..NOTHING });
 }
 
-/// Hours, minutes and seconds 00 to 99: those that are answered are the seconds of a day, one after the other.
+/// Hours, minutes and seconds 00 to 99: those that are answered are the seconds of a day, one after the
+/// other.
 #[test]
 fn every_clock_is_told_alike() {
     let mut comparer = Comparer::default();
@@ -276,7 +278,8 @@ fn every_month_name_is_told_alike() {
     assert_eq!(outcomes, Outcomes { times: 2 * 12, no_time, ..NOTHING });
 }
 
-/// A text cut short or lengthened by a byte again and again, and blanks, in memory whose neighbours cannot be read.
+/// A text cut short or lengthened by a byte again and again, and blanks, in memory whose neighbours
+/// cannot be read.
 #[test]
 fn every_length_is_told_alike() {
     let mut comparer = Comparer::default();
@@ -305,7 +308,7 @@ fn numbers_of(answer: &Answer) -> (i64, u64, u64) {
     (answer.words[4] as i64, answer.words[5], answer.words[6])
 }
 
-/// Of two random times, often on one day or in one second, the text of the later is read back as the later.
+/// Of two random times, often on one day or in one second, the text of the later is read as the later.
 #[test]
 fn random_times_are_answered_both_ways_and_in_order() {
     let mut comparer = Comparer::default();
