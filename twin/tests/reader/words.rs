@@ -1,7 +1,8 @@
 //! The answers laid out for C: the lengths that the header defines, and words worked out by hand.
 
 use twin::builder::{named_product, Description, EntryDescription, Number};
-use twin::words::{self, Call};
+use twin::words::{self, Answer, Call};
+use twin::Time;
 
 /// The header that the words are laid out by.
 const HEADER: &str = include_str!("../../../include/ambrothel.h");
@@ -82,6 +83,47 @@ fn a_pixel_stands_in_eleven_words_and_a_double() {
         assert_eq!(answer.double_bits, [0]);
     }
     assert_eq!(asked(1, usize::MAX).words[..3], [23, u64::MAX, 1]);
+}
+
+/// A time with its days' sign in 64 bits, a text that is not given, and one that is refused.
+#[test]
+fn a_text_is_answered_in_seven_words() {
+    for (text, words) in [
+        (&b"31-DEC-1999 23:59:59.999999"[..], [0, 0, 0, 1, u64::MAX, 86_399, 999_999]),
+        (&[b' '; 27], [0, 0, 0, 2, 0, 0, 0]),
+        (b"31-DEC-1999 23:59:60.999999", [30, 0, 128, 0, 0, 0, 0]),
+        (&[], [30, 0, 128, 0, 0, 0, 0]),
+    ] {
+        assert_eq!(
+            Call::TimeOfText.answer(text),
+            Answer { words: words.to_vec(), ..Answer::default() }
+        );
+        let mut room = [7; 9];
+        assert!((0..7).all(|length| !words::write_time_of_text(text, &mut room[..length])));
+        assert_eq!(room, [7; 9]);
+        assert!(words::write_time_of_text(text, &mut room));
+        assert_eq!((&room[..7], &room[7..]), (&words[..], &[7; 2][..]));
+    }
+}
+
+/// Beside a refusal the text is zeros.
+#[test]
+fn a_time_is_answered_in_three_words_and_27_bytes() {
+    for (seconds, refusal, text) in
+        [(86_399, [0, 0, 0], b"31-DEC-1999 23:59:59.000017"), (86_400, [31, 0, 128], &[0; 27])]
+    {
+        let time = Time { days: -1, seconds, microseconds: 17 };
+        let answer = Call::TextOfTime { time }.answer(&[]);
+        assert_eq!((&answer.words[..], &answer.bytes[..]), (&refusal[..], &text[..]));
+        let (mut words, mut bytes) = ([7; 5], [7; 30]);
+        let mut write =
+            |word, byte| words::write_text_of_time(time, &mut words[..word], &mut bytes[..byte]);
+        assert!((0..3).all(|length| !write(length, 30)) && (0..27).all(|length| !write(5, length)));
+        assert_eq!((words, bytes), ([7; 5], [7; 30]));
+        assert!(words::write_text_of_time(time, &mut words, &mut bytes));
+        assert_eq!((&words[..3], &words[3..]), (&refusal[..], &[7; 2][..]));
+        assert_eq!((&bytes[..27], &bytes[27..]), (&text[..], &[7; 3][..]));
+    }
 }
 
 /// Every number of the main header is another one, so that no two can be exchanged.
