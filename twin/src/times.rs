@@ -1,13 +1,10 @@
 //! Times that people can read (document 02, order 7): `01-JAN-2000 00:00:00.000000` and the time that
 //! it stands for, either way, from 1 January 1980 to 31 December 2099. Refusals 30 and 31.
-//!
-//! Eight bytes of a text are read or written as one word, each byte in its lane, the first in the
-//! lowest. Four words make up a text, at places where they overlap: `DD-MMM-Y`, `YYYY hh:`, `hh:mm:ss`
-//! and `s.uuuuuu`.
+
+use std::array;
 
 use crate::fields::Time;
 use crate::refusal::Refusal;
-use crate::text::eight_digits;
 
 /// Bytes of a time's text.
 pub const TIME_TEXT: usize = 27;
@@ -26,109 +23,45 @@ const SECONDS: u32 = 86_400;
 const MICROSECONDS: u32 = 1_000_000;
 /// Of the years in the range every fourth is a leap year: 1980 is one, and so is 2000.
 const FOUR_YEARS: u32 = 4 * 365 + 1;
+/// From 1 March to the end of the year.
+const DAYS_FROM_MARCH_ON: u32 = 306;
 
-const MONTHS: [(&[u8; 3], u16); 12] = [
-    (b"JAN", 31),
-    (b"FEB", 28),
-    (b"MAR", 31),
-    (b"APR", 30),
-    (b"MAY", 31),
-    (b"JUN", 30),
-    (b"JUL", 31),
-    (b"AUG", 31),
-    (b"SEP", 30),
-    (b"OCT", 31),
-    (b"NOV", 30),
-    (b"DEC", 31),
+const MONTHS: [([u8; 3], u16); 12] = [
+    (*b"JAN", 31),
+    (*b"FEB", 28),
+    (*b"MAR", 31),
+    (*b"APR", 30),
+    (*b"MAY", 31),
+    (*b"JUN", 30),
+    (*b"JUL", 31),
+    (*b"AUG", 31),
+    (*b"SEP", 30),
+    (*b"OCT", 31),
+    (*b"NOV", 30),
+    (*b"DEC", 31),
 ];
 const FEBRUARY: usize = 1;
 const MARCH: usize = 2;
 
-/// The lowest and the highest byte at each place; the letters of the month are looked up instead. A
-/// digit's lowest byte has no bit in common with what it counts, so that taking it off is an exclusive
-/// or.
-const LOWEST: &[u8; TIME_TEXT] = b"00-\0\0\0-0000 00:00:00.000000";
-const HIGHEST: &[u8; TIME_TEXT] = b"39-\xff\xff\xff-9999 29:59:59.999999";
+/// The lowest and the highest byte that the text of a time has at each place.
+const LOWEST: &[u8; TIME_TEXT] = b"00-AAA-1000 00:00:00.000000";
+const HIGHEST: &[u8; TIME_TEXT] = b"39-SUY-2999 29:59:59.999999";
+/// The first so many bytes of a text and the last so many are all of them.
+const BLOCK: usize = 16;
 
-/// The four words, by their first bytes' places.
-const DATE: Word = Word::at(0);
-const YEAR: Word = Word::at(7);
-const CLOCK: Word = Word::at(12);
-const FRACTION: Word = Word::at(19);
-
-/// The lanes of the words in which numbers of two digits begin.
-const DAY_LANES: u64 = 1;
-const YEAR_LANES: u64 = 1 | 1 << 16;
-const CLOCK_LANES: u64 = 1 | 1 << 24 | 1 << 48;
-const FRACTION_LANES: u64 = 1 << 16 | 1 << 32 | 1 << 48;
-
-/// What may stand in eight bytes of a text.
-struct Word {
-    place: usize,
-    lowest: u64,
-    /// How far each lane's highest byte is from the lane's top bit.
-    room: u64,
-    /// The top bits of the lanes that are looked at.
-    top_bits: u64,
-}
-
-impl Word {
-    const fn at(place: usize) -> Word {
-        let mut word = Word { place, lowest: 0, room: 0, top_bits: 0 };
-        let mut lane = 0;
-        while lane < 8 {
-            let highest = LOWEST[place + lane] ^ HIGHEST[place + lane];
-            word.lowest |= (LOWEST[place + lane] as u64) << (8 * lane);
-            if highest < 128 {
-                word.room |= ((127 - highest) as u64) << (8 * lane);
-                word.top_bits |= 128 << (8 * lane);
-            }
-            lane += 1;
-        }
-        word
-    }
-
-    /// What the bytes count above their lowest ones, and a bit for each that is too high. A lane's sum
-    /// goes on to the next lane only where its own top bit was set, which is looked at as well.
-    #[inline]
-    fn read(&self, text: &[u8; TIME_TEXT]) -> (u64, u64) {
-        let mut bytes = [0; 8];
-        bytes.copy_from_slice(&text[self.place..self.place + 8]);
-        let above = u64::from_le_bytes(bytes) ^ self.lowest;
-        (above, (above.wrapping_add(self.room) | above) & self.top_bits)
-    }
-
-    /// Writes the bytes that count so much above their lowest ones.
-    #[inline]
-    fn write(&self, text: &mut [u8; TIME_TEXT], above: u64) {
-        let bytes = (above ^ self.lowest).to_le_bytes();
-        text[self.place..self.place + 8].copy_from_slice(&bytes);
-    }
-}
-
-/// A month of a year that is a leap year or not.
+/// A month of a common year or of a leap year.
 #[derive(Clone, Copy)]
 struct Month {
     letters: u32,
-    /// Days of the year before it.
+    /// The days of the year before it.
     before: u16,
     length: u16,
 }
 
-/// Another number of each month's second and third letter together, below this.
+/// The second and the third letter of a month add up to another number for each, in five bits too.
 const LETTER_SUMS: usize = 32;
-/// The months of common and of leap years by their letters' sums; what no month has, no letters have.
+/// The months of common years and of leap years by these sums; where no month has a sum, no letters do.
 static MONTHS_BY_SUM: [[Month; LETTER_SUMS]; 2] = [months_by_sum(false), months_by_sum(true)];
-
-#[inline]
-const fn letters_of(name: &[u8; 3]) -> u32 {
-    u32::from_le_bytes([name[0], name[1], name[2], 0])
-}
-
-#[inline]
-const fn sum_of(letters: u32) -> usize {
-    ((letters >> 8) + (letters >> 16)) as usize % LETTER_SUMS
-}
 
 const fn months_by_sum(leap: bool) -> [Month; LETTER_SUMS] {
     let mut table = [Month { letters: u32::MAX, before: 0, length: 0 }; LETTER_SUMS];
@@ -145,8 +78,19 @@ const fn months_by_sum(leap: bool) -> [Month; LETTER_SUMS] {
     table
 }
 
-/// The time of a text, or nothing where it is blank: refusal 30.
 #[inline]
+const fn letters_of([first, second, third]: [u8; 3]) -> u32 {
+    u32::from_le_bytes([first, second, third, 0])
+}
+
+#[inline]
+const fn sum_of(letters: u32) -> usize {
+    ((letters >> 8) + (letters >> 16)) as usize % LETTER_SUMS
+}
+
+/// The time of a text, or nothing where it is blank: refusal 30. It is compiled into its callers, which
+/// lay the answer out for C, so that it does not go through memory.
+#[inline(always)]
 pub fn time_of_text(text: &[u8]) -> Result<Option<Time>, Refusal> {
     let text: &[u8; TIME_TEXT] = text.try_into().map_err(|_| NO_TIME)?;
     match time_in(text) {
@@ -155,48 +99,95 @@ pub fn time_of_text(text: &[u8]) -> Result<Option<Time>, Refusal> {
     }
 }
 
-/// The time of a text, where it is one. All is worked out before anything is judged, so that a good
-/// text costs no branch for each part.
-#[inline]
+/// The time of a text, where it is one. What is judged is worked out before, so that a good text costs
+/// few branches.
+#[inline(always)]
 fn time_in(text: &[u8; TIME_TEXT]) -> Option<Time> {
-    let (date, bad_date) = DATE.read(text);
-    let (year, bad_year) = YEAR.read(text);
-    let (clock, bad_clock) = CLOCK.read(text);
-    let (fraction, bad_fraction) = FRACTION.read(text);
-    let (day_number, clock_number, year_number) = (pairs(date), pairs(clock), pairs(year));
-
-    let year = (100 * lane(year_number, 0) + lane(year_number, 2)).wrapping_sub(FIRST_YEAR);
-    let letters = (date >> 24) as u32 & 0xff_ffff;
+    let [_, _, _, first, second, third, ..] = *text;
+    let letters = letters_of([first, second, third]);
+    let year = number::<4>(text, 7).wrapping_sub(FIRST_YEAR);
     let month = &MONTHS_BY_SUM[usize::from(year.is_multiple_of(4))][sum_of(letters)];
-    let day = lane(day_number, 0).wrapping_sub(1);
-    let hour = lane(clock_number, 0);
-
-    let all_digits = bad_date | bad_year | bad_clock | bad_fraction == 0;
-    let in_year = (month.letters == letters) & (day < u32::from(month.length));
-    if !(all_digits & in_year & (year < YEARS) & (hour < 24)) {
+    let day = number::<2>(text, 0).wrapping_sub(1);
+    let hour = number::<2>(text, 12);
+    let in_month = (month.letters == letters) & (day < u32::from(month.length));
+    if !(is_within_bounds(text) & in_month & (year < YEARS) & (hour < 24)) {
         return None;
     }
     let days = (FOUR_YEARS * year).div_ceil(4) + u32::from(month.before) + day;
     Some(Time {
         days: days as i32 + FIRST_DAY,
-        seconds: 3600 * hour + 60 * lane(clock_number, 3) + lane(clock_number, 6),
-        microseconds: eight_digits((fraction & !0xffff).to_le_bytes()) as u32,
+        seconds: 3600 * hour + 60 * number::<2>(text, 15) + number::<2>(text, 18),
+        microseconds: number::<6>(text, 21),
     })
 }
 
-/// In each lane the number that its digit and the next one write.
+/// Whether no byte is below the lowest or above the highest. All are looked at together, in two blocks.
 #[inline]
-fn pairs(digits: u64) -> u64 {
-    digits.wrapping_mul(10).wrapping_add(digits >> 8)
+fn is_within_bounds(text: &[u8; TIME_TEXT]) -> bool {
+    let excess = |place: usize| {
+        let above = text[place].wrapping_sub(LOWEST[place]);
+        above.saturating_sub(HIGHEST[place] - LOWEST[place])
+    };
+    let excesses: [u8; BLOCK] = array::from_fn(|lane| excess(lane) | excess(TIME_TEXT - BLOCK + lane));
+    u128::from_ne_bytes(excesses) == 0
 }
 
+/// The number that digits write; of other bytes, any.
 #[inline]
-fn lane(word: u64, lane: u32) -> u32 {
-    (word >> (8 * lane)) as u32 & 0xff
+fn number<const DIGITS: usize>(text: &[u8; TIME_TEXT], place: usize) -> u32 {
+    let digits = text[place..place + DIGITS].iter().map(|&byte| u32::from(byte).wrapping_sub(48));
+    digits.fold(0, |number: u32, digit| number.wrapping_mul(10).wrapping_add(digit))
+}
+
+/// The numbers from 0 to 99 in two digits.
+static PAIRS: [[u8; 2]; 100] = pairs();
+/// The years from 1979 to 2099 in four.
+static YEAR_DIGITS: [[u8; 4]; YEARS as usize + 1] = year_digits();
+/// The days of a year that begins on 1 March and ends with the leap day: `01-MAR-` and so on, and a
+/// byte.
+static DAYS_OF_YEAR: [[u8; 8]; 366] = days_of_year();
+
+const fn pairs() -> [[u8; 2]; 100] {
+    let mut pairs = [[0; 2]; 100];
+    let mut number = 0;
+    while number < pairs.len() {
+        pairs[number] = [b'0' + (number / 10) as u8, b'0' + (number % 10) as u8];
+        number += 1;
+    }
+    pairs
+}
+
+const fn year_digits() -> [[u8; 4]; YEARS as usize + 1] {
+    let pairs = pairs();
+    let mut years = [[0; 4]; YEARS as usize + 1];
+    let mut index = 0;
+    while index < years.len() {
+        let year = FIRST_YEAR as usize - 1 + index;
+        let ([thousands, hundreds], [tens, ones]) = (pairs[year / 100], pairs[year % 100]);
+        years[index] = [thousands, hundreds, tens, ones];
+        index += 1;
+    }
+    years
+}
+
+const fn days_of_year() -> [[u8; 8]; 366] {
+    let pairs = pairs();
+    let mut days = [[0; 8]; 366];
+    let (mut month, mut day, mut index) = (MARCH, 1, 0);
+    while index < days.len() {
+        let ([first, second, third], length) = MONTHS[month];
+        let [tens, ones] = pairs[day];
+        days[index] = [tens, ones, b'-', first, second, third, b'-', 0];
+        (month, day) = match day < length as usize || month == FEBRUARY {
+            true => (month, day + 1),
+            false => ((month + 1) % MONTHS.len(), 1),
+        };
+        index += 1;
+    }
+    days
 }
 
 /// The text of a time: refusal 31.
-#[inline]
 pub fn text_of_time(time: Time) -> Result<[u8; TIME_TEXT], Refusal> {
     let mut text = [0; TIME_TEXT];
     write_text(time, &mut text).map(|()| text)
@@ -207,51 +198,33 @@ pub fn text_of_time(time: Time) -> Result<[u8; TIME_TEXT], Refusal> {
 pub(crate) fn write_text(time: Time, text: &mut [u8; TIME_TEXT]) -> Result<(), Refusal> {
     let Time { days, seconds, microseconds } = time;
     let days = days.wrapping_sub(FIRST_DAY) as u32;
-    if !((days < DAYS) & (seconds < SECONDS) & (microseconds < MICROSECONDS)) {
+    if days >= DAYS || seconds >= SECONDS || microseconds >= MICROSECONDS {
         return Err(OUT_OF_RANGE);
     }
+    *text = *LOWEST;
     write_date(days, text);
     let minutes = seconds / 60;
-    let fraction = [microseconds / 10_000, microseconds / 100 % 100, microseconds % 100];
-    let [first, second, third] = fraction.map(u64::from);
-    FRACTION.write(text, digits(first << 16 | second << 32 | third << 48, FRACTION_LANES));
-    let [hour, minute, second] = [minutes / 60, minutes % 60, seconds % 60].map(u64::from);
-    CLOCK.write(text, digits(hour | minute << 24 | second << 48, CLOCK_LANES));
+    for (place, number) in [
+        (12, minutes / 60),
+        (15, minutes % 60),
+        (18, seconds % 60),
+        (21, microseconds / 10_000),
+        (23, microseconds / 100 % 100),
+        (25, microseconds % 100),
+    ] {
+        text[place..place + 2].copy_from_slice(&PAIRS[number as usize]);
+    }
     Ok(())
 }
 
-/// The letters of the months in their lanes of the date's word, from March on.
-static LETTERS_FROM_MARCH: [u64; 12] = letters_from_march();
-
-const fn letters_from_march() -> [u64; 12] {
-    let mut letters = [0; 12];
-    let mut month = 0;
-    while month < letters.len() {
-        letters[month] = (letters_of(MONTHS[(month + MARCH) % 12].0) as u64) << 24;
-        month += 1;
-    }
-    letters
-}
-
-/// Writes the date of a day, counted from 1 January 1980. Years are taken from 1 March on, the first
-/// from that of 1979, 306 days before: then the leap day is the last of its year, and five months in a
-/// row have 153 days.
+/// Writes the date of a day, counted from 1 January 1980. Years are taken to begin on 1 March, the
+/// first with that of 1979, so that each leap day is the last of its year: then, of four years in a
+/// row, the first has 366 days, and day and year come out of one division of the quarters of days.
 #[inline]
 fn write_date(day: u32, text: &mut [u8; TIME_TEXT]) {
-    let quarters = 4 * (day + 306);
-    let fifths = 5 * (quarters % FOUR_YEARS / 4) + 2;
-    let (month, day) = (fifths / 153, fifths % 153 / 5 + 1);
-    let year = FIRST_YEAR - 1 + quarters / FOUR_YEARS + u32::from(month >= 10);
-    let letters = LETTERS_FROM_MARCH[month as usize];
-    DATE.write(text, digits(u64::from(day), DAY_LANES) | letters);
-    let [century, in_century] = [year / 100, year % 100].map(u64::from);
-    YEAR.write(text, digits(century | in_century << 16, YEAR_LANES));
-}
-
-/// The digits of numbers below 100, each number in a lane where two digits begin: its tens there, its
-/// ones in the next. Up to 99, 103/1024 is as good as a tenth.
-#[inline]
-fn digits(numbers: u64, lanes: u64) -> u64 {
-    let tens = ((numbers * 103) >> 10) & (15 * lanes);
-    tens | ((numbers - 10 * tens) << 8)
+    let quarters = 4 * (day + DAYS_FROM_MARCH_ON);
+    let day_of_year = quarters % FOUR_YEARS / 4;
+    let year = quarters / FOUR_YEARS + u32::from(day_of_year >= DAYS_FROM_MARCH_ON);
+    text[..8].copy_from_slice(&DAYS_OF_YEAR[day_of_year as usize]);
+    text[7..11].copy_from_slice(&YEAR_DIGITS[year as usize]);
 }
