@@ -85,7 +85,7 @@ fn magnitude(digits: &[u8]) -> u64 {
 
 /// Eight digits at once: pairs, then fours, then all of them, each in the lanes of one word.
 #[inline]
-fn eight_digits(digits: [u8; 8]) -> u64 {
+pub(crate) fn eight_digits(digits: [u8; 8]) -> u64 {
     let ones = u64::from_le_bytes(digits) & 0x0f0f_0f0f_0f0f_0f0f;
     let pairs = (ones * 10 + (ones >> 8)) & 0x00ff_00ff_00ff_00ff;
     let fours = (pairs * 100 + (pairs >> 16)) & 0x0000_ffff_0000_ffff;

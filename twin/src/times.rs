@@ -5,6 +5,7 @@ use std::array;
 
 use crate::fields::Time;
 use crate::refusal::Refusal;
+use crate::text::eight_digits;
 
 /// Bytes of a time's text.
 pub const TIME_TEXT: usize = 27;
@@ -117,7 +118,7 @@ fn time_in(text: &[u8; TIME_TEXT]) -> Option<Time> {
     Some(Time {
         days: days as i32 + FIRST_DAY,
         seconds: 3600 * hour + 60 * number::<2>(text, 15) + number::<2>(text, 18),
-        microseconds: number::<6>(text, 21),
+        microseconds: microseconds_in(text),
     })
 }
 
@@ -132,6 +133,15 @@ fn is_within_bounds(text: &[u8; TIME_TEXT]) -> bool {
     u128::from_ne_bytes(excesses) == 0
 }
 
+/// The last six digits, with zeros for the two bytes before them.
+#[inline]
+fn microseconds_in(text: &[u8; TIME_TEXT]) -> u32 {
+    let mut digits = [0; 8];
+    digits.copy_from_slice(&text[TIME_TEXT - 8..]);
+    digits[..2].fill(b'0');
+    eight_digits(digits) as u32
+}
+
 /// The number that digits write; of other bytes, any.
 #[inline]
 fn number<const DIGITS: usize>(text: &[u8; TIME_TEXT], place: usize) -> u32 {
@@ -144,7 +154,7 @@ static PAIRS: [[u8; 2]; 100] = pairs();
 /// The years from 1979 to 2099 in four.
 static YEAR_DIGITS: [[u8; 4]; YEARS as usize + 1] = year_digits();
 /// The days of a year that begins on 1 March and ends with the leap day: `01-MAR-` and so on, and a
-/// byte.
+/// byte in the place of the year's first.
 static DAYS_OF_YEAR: [[u8; 8]; 366] = days_of_year();
 
 const fn pairs() -> [[u8; 2]; 100] {
@@ -178,10 +188,10 @@ const fn days_of_year() -> [[u8; 8]; 366] {
         let ([first, second, third], length) = MONTHS[month];
         let [tens, ones] = pairs[day];
         days[index] = [tens, ones, b'-', first, second, third, b'-', 0];
-        (month, day) = match day < length as usize || month == FEBRUARY {
-            true => (month, day + 1),
-            false => ((month + 1) % MONTHS.len(), 1),
-        };
+        day += 1;
+        if day > length as usize && month != FEBRUARY {
+            (month, day) = ((month + 1) % MONTHS.len(), 1);
+        }
         index += 1;
     }
     days
@@ -193,7 +203,8 @@ pub fn text_of_time(time: Time) -> Result<[u8; TIME_TEXT], Refusal> {
     write_text(time, &mut text).map(|()| text)
 }
 
-/// Writes the text of a time; nothing beside refusal 31.
+/// Writes the text of a time, of which the lowest one has the bytes between numbers; nothing beside
+/// refusal 31.
 #[inline]
 pub(crate) fn write_text(time: Time, text: &mut [u8; TIME_TEXT]) -> Result<(), Refusal> {
     let Time { days, seconds, microseconds } = time;
