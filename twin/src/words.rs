@@ -55,7 +55,7 @@ pub struct Answer {
 }
 
 impl Call {
-    /// The twin's answer.
+    /// The twin's answer; `product` is the text where the call reads one.
     pub fn answer(&self, product: &[u8]) -> Answer {
         match *self {
             Call::Judge => verdict_answer(judge(product)),

@@ -345,7 +345,7 @@ fn draw_any_time(choices: &mut Generator) -> Time {
         time.seconds = any[1];
     }
     if drawn & 4 != 0 {
-        time.microseconds = 8 * any[2];
+        time.microseconds = any[2].wrapping_mul(8);
     }
     time
 }
