@@ -7,11 +7,12 @@ use mathlib.Core.Path.{_≡_, refl, sym, ap, _∙_}
 use native.Mathlib.Omega.{arith}
 use lib.Dec.{T, leb, ltb, eqb, leb→le, ltb→lt, eqb→eq}
 use lib.ListN.{take, getD}
-use borrow.Author.Tests.{le-leb, lt-leb}
+use borrow.Author.Tests.{lt-ltb, le-ltb}
 use Rattle.layout.specs.Answer.{Answer, need, accepted}
 use Rattle.layout.specs.Search.{first, sum}
 use Rattle.layout.proofs.Laws.{and-T, need-accepts, first-accepts}
-use Rattle.calendar.specs.Calendar.{leap, months, daysOfMonth, daysOfYear, years}
+use Rattle.calendar.specs.Calendar.{leap, months, daysOfYear, years}
+use Rattle.calendar.specs.Even.{evenDays}
 
 -- a test that each of n numbers passes, by computing it for each
 pub each-passes : (t : ℕ → Bool) (i n : ℕ) → first (λ k. need (t k) 0 0 0) i n ≡ accepted → (k : ℕ) → i ≤ k → k < i + n → T (t k)
@@ -43,12 +44,12 @@ years-are k u = eqb→eq (sum (take k years)) ((1461 * k + 3) / 4) (each-passes 
 
 -- ---- months
 
--- the first months of a year that is not leap
-abbrev pub table : List ℕ
-table = 0 ∷ 31 ∷ 59 ∷ 90 ∷ 120 ∷ 151 ∷ 181 ∷ 212 ∷ 243 ∷ 273 ∷ 304 ∷ 334 ∷ 365 ∷ []
+-- the first k months, had February 30 days
+abbrev even : ℕ → ℕ
+even k = (367 * k + 5) / 12
 
 abbrev counts : Bool → ℕ → Bool
-counts long k = eqb (cond (long && leb 2 k) (getD table k 0 + 1) (getD table k 0)) (sum (take k (months long))) && leb (sum (take k (months long))) 366
+counts long k = eqb (cond (ltb k 2) (even k) (cond long (even k - 1) (even k - 2))) (sum (take k (months long))) && leb (sum (take k (months long))) 366
 
 months-counted : (long : Bool) → first (λ k. need (counts long k) 0 0 0) 0 13 ≡ accepted
 unfolding first sum months
@@ -56,43 +57,69 @@ months-counted true = refl
 months-counted false = refl
 
 module _ (long : Bool) (k : ℕ) (u : k ≤ 12) where
-  counted : T (eqb (cond (long && leb 2 k) (getD table k 0 + 1) (getD table k 0)) (sum (take k (months long)))) × T (leb (sum (take k (months long))) 366)
+  counted : (cond (ltb k 2) (even k) (cond long (even k - 1) (even k - 2)) ≡ sum (take k (months long))) × (sum (take k (months long)) ≤ 366)
   counted =
-      and-T (eqb (cond (long && leb 2 k) (getD table k 0 + 1) (getD table k 0)) (sum (take k (months long)))) (leb (sum (take k (months long))) 366) .0
-      (each-passes (counts long) 0 13 (months-counted long) k (omega arith) (omega arith))
+      let n = cond (ltb k 2) (even k) (cond long (even k - 1) (even k - 2)) in
+      let m = sum (take k (months long)) in
+      let h = and-T (eqb n m) (leb m 366) .0 (each-passes (counts long) 0 13 (months-counted long) k (omega arith) (omega arith)) in
+      (eqb→eq n m (h .0), leb→le m 366 (h .1))
 
-  months-are : cond (long && leb 2 k) (getD table k 0 + 1) (getD table k 0) ≡ sum (take k (months long))
-  months-are = eqb→eq (cond (long && leb 2 k) (getD table k 0 + 1) (getD table k 0)) (sum (take k (months long))) (counted .0)
+  abbrev Is : ℕ → Type 0
+  Is n = (n ≡ sum (take k (months long))) × (n ≤ 366)
 
-  pub months-most : sum (take k (months long)) ≤ 366
-  months-most = leb→le (sum (take k (months long))) 366 (counted .1)
+  is-days : (n : ℕ) → n ≡ sum (take k (months long)) → Is n
+  is-days n e = (e, rw e (counted .1))
 
-  -- with 29 February
-  pub longer : (long && leb 2 k) ≡ true → (getD table k 0 + 1 ≡ sum (take k (months long))) × (getD table k 0 + 1 ≤ 366)
-  longer h =
-      let e : getD table k 0 + 1 ≡ sum (take k (months long)) = rw h at months-are in
-      (e, rw e months-most)
+  -- before March
+  pub before-march : k < 2 → Is (even k)
+  before-march h = is-days (even k) (rw (lt-ltb k 2 h) at (counted .0))
 
-  -- without it
-  pub as-long : (long && leb 2 k) ≡ false → (getD table k 0 ≡ sum (take k (months long))) × (getD table k 0 ≤ 366)
-  as-long h =
-      let e : getD table k 0 ≡ sum (take k (months long)) = rw h at months-are in
-      (e, rw e months-most)
+  -- from March on, with or without 29 February
+  pub leap-march : 2 ≤ k → long ≡ true → Is (even k - 1)
+  leap-march h e = is-days (even k - 1) (rw (le-ltb k 2 h, e) at (counted .0) ∙ rw e)
 
-pub table-most : (k : ℕ) → k ≤ 12 → getD table k 0 ≤ 366
-table-most k u = as-long false k u refl .1
+  pub from-march : 2 ≤ k → long ≡ false → Is (even k - 2)
+  from-march h e = is-days (even k - 2) (rw (le-ltb k 2 h, e) at (counted .0) ∙ rw e)
 
 -- ---- the month that a day of a year falls in
 
+-- the days with a February of 30
+module _ (long : Bool) (d : ℕ) where
+  pub early-leap : long ≡ true → d < 60 → d ≡ evenDays long d
+  unfolding evenDays
+  early-leap e h = rw (e, lt-ltb d 60 h)
+
+  pub late-leap : long ≡ true → 60 ≤ d → d + 1 ≡ evenDays long d
+  unfolding evenDays
+  late-leap e h = rw (e, le-ltb d 60 h)
+
+  pub early : long ≡ false → d < 59 → d ≡ evenDays long d
+  unfolding evenDays
+  early e h = rw (e, lt-ltb d 59 h)
+
+  pub late : long ≡ false → 59 ≤ d → d + 2 ≡ evenDays long d
+  unfolding evenDays
+  late e h = rw (e, le-ltb d 59 h)
+
+  pub even-most : evenDays long d ≤ d + 2
+  unfolding evenDays
+  even-most = go long (ltb d 60) (ltb d 59)
+    where
+      go : (l u v : Bool) → cond l (cond u d (d + 1)) (cond v d (d + 2)) ≤ d + 2
+      go true true v = omega arith
+      go true false v = omega arith
+      go false u true = omega arith
+      go false u false = omega arith
+
 -- the months that are over
 abbrev pub overOf : Bool → ℕ → ℕ
-overOf long r = cond (leb (sum (take (r / 32 + 1) (months long))) r) (r / 32 + 1) (r / 32)
+overOf long r = (12 * evenDays long r + 6) / 367
 
 abbrev inMonth : Bool → ℕ → Bool
 inMonth long r = leb (sum (take (overOf long r) (months long))) r && (ltb r (sum (take (suc (overOf long r)) (months long))) && leb (overOf long r) 11)
 
 months-found : (long : Bool) → first (λ r. need (inMonth long r) 0 0 0) 0 (sum (months long)) ≡ accepted
-unfolding first sum months
+unfolding first sum months evenDays
 months-found true = refl
 months-found false = refl
 
@@ -108,13 +135,6 @@ module _ (long : Bool) (r : ℕ) (u : r < sum (months long)) where
       let h = and-T (leb l r) (ltb r n && leb (overOf long r) 11) .0 (each-passes (inMonth long) 0 (sum (months long)) (months-found long) r (omega arith) (omega arith)) in
       let k = and-T (ltb r n) (leb (overOf long r) 11) .0 (h .1) in
       (leb→le l r (h .0), (ltb→lt r n (k .0), leb→le (overOf long r) 11 (k .1)))
-
-  module _ {days : ℕ} (e : days ≡ sum (take (r / 32 + 1) (months long))) where
-    pub next-month : days ≤ r → Over long r (r / 32 + 1)
-    next-month h = rw (le-leb (sum (take (r / 32 + 1) (months long))) r (rw (sym e) h)) at found
-
-    pub this-month : r < days → Over long r (r / 32)
-    this-month h = rw (lt-leb (sum (take (r / 32 + 1) (months long))) r (rw (sym e) h)) at found
 
 pub year-long : (long : Bool) → sum (months long) ≡ cond long 366 365
 unfolding sum months

@@ -1,2 +1,3 @@
 pub mod Calendar
 pub mod Order
+pub mod Even

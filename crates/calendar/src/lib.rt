@@ -5,6 +5,7 @@ ghost use lib.Dec.{T};
 ghost use lib.ListN.{take};
 ghost use Rattle.layout.specs.Search.{sum};
 ghost use Rattle.calendar.specs.Calendar.{leap, months, validDate, daysBefore};
+ghost use Rattle.calendar.specs.Even.{evenDays};
 
 // A date, January being month 1.
 pub struct Date {
@@ -12,9 +13,6 @@ pub struct Date {
     pub month: u32,
     pub day: u32,
 }
-
-// The days of so many first months of a year that is not leap.
-const DAYS_OF_MONTHS: [u32; 13] = [0, 31, 59, 90, 120, 151, 181, 212, 243, 273, 304, 334, 365];
 
 // Of these years every fourth is leap: 2000 is, and 1900 and 2100 are outside.
 fn is_leap(year: u32) -> bool
@@ -24,16 +22,19 @@ fn is_leap(year: u32) -> bool
     year % 4 == 0
 }
 
-// The days of so many first months of a year.
+// The days of so many first months of a year. Had February 30 days, twelve months would have 367, and so many months as many twelfths of it.
 fn days_of_months(long: bool, count: u32) -> u32
     requires { ⌜ count ≤ 12 ⌝ }
     ensures { λ r. ⌜ (r ≡ sum (take count (months long))) × (r ≤ 366) ⌝ }
 {
-    let days = DAYS_OF_MONTHS[count as usize];
-    if long & (2 <= count) {
-        return days + 1;
+    let days = (367 * count + 5) / 12;
+    if count < 2 {
+        return days;
     }
-    days
+    if long {
+        return days - 1;
+    }
+    days - 2
 }
 
 // A date of the range.
@@ -68,16 +69,29 @@ pub fn days_before(date: Date) -> u32
     years + months + (date.day - 1)
 }
 
-// How many months of a year are over on a day, by the days of the year before it. No month has more than 31 days, so a 32nd of them is right or one short.
+// The days of a year before one of its days, had February 30.
+fn days_of_even_months(long: bool, days: u32) -> u32
+    requires { ⌜ days ≤ 366 ⌝ }
+    ensures { λ r. ⌜ r ≡ evenDays long days ⌝ }
+{
+    if long {
+        if days < 60 {
+            return days;
+        }
+        return days + 1;
+    }
+    if days < 59 {
+        return days;
+    }
+    days + 2
+}
+
+// How many months of a year are over on a day, by the days of the year before it.
 fn months_over(long: bool, days: u32) -> u32
     requires { ⌜ days < sum (months long) ⌝ }
     ensures { λ r. ⌜ (sum (take r (months long)) ≤ days) × ((days < sum (take (suc r) (months long))) × (r ≤ 11)) ⌝ }
 {
-    let over = days / 32;
-    if days_of_months(long, over + 1) <= days {
-        return over + 1;
-    }
-    over
+    (12 * days_of_even_months(long, days) + 6) / 367
 }
 
 // The date that has so many days before it.

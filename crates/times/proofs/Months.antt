@@ -1,6 +1,6 @@
 -- The names of the months: where the code has their letters, and that it finds each month again from its letters.
 -- Assumes nothing.
-use Prim.Native.Nat.{ℕ, zero, suc, _+_, _*_, _-_, _%_, _≤_, _<_}
+use Prim.Native.Nat.{ℕ, zero, suc, _+_, _*_, _/_, _%_, _^_, _≤_, _<_}
 use mathlib.Core.Bool.{Bool, true, false, cond, _&&_, and-true}
 use mathlib.Core.List.{List, [], _∷_}
 use mathlib.Core.Logic.{_⊎_, inl, inr}
@@ -13,6 +13,7 @@ use Rattle.layout.specs.Answer.{need, accepted}
 use Rattle.layout.specs.Search.{first, find}
 use Rattle.layout.proofs.Laws.{and-T, lt-or-le, find-bounds, find-at}
 use Rattle.calendar.proofs.Days.{each-passes}
+use Rattle.times.specs.Letters.{letterIn}
 use Rattle.times.specs.Times.{monthNames, monthName, sameBytes, isNamed, monthIn}
 
 -- ---- equal bytes
@@ -33,14 +34,20 @@ is-same (x ∷ a) = and-T (eqb x x) (sameBytes a a) .1 (eqb-refl x, is-same a)
 
 -- ---- where the code has the letters
 
-abbrev pub letters : List ℕ
-letters = bytes "JANFEBMARAPRMAYJUNJULAUGSEPOCTNOVDEC"
+abbrev pub firsts : ℕ
+firsts = 160426488520291530
+
+abbrev pub seconds : ℕ
+seconds = 197144279181165729
+
+abbrev pub thirds : ℕ
+thirds = 133577722534905934
 
 abbrev pub lettersOf : ℕ → List ℕ
-lettersOf m = getD letters (3 * (m - 1)) 0 ∷ getD letters (3 * (m - 1) + 1) 0 ∷ getD letters (3 * (m - 1) + 2) 0 ∷ []
+lettersOf m = letterIn firsts m ∷ letterIn seconds m ∷ letterIn thirds m ∷ []
 
 names-spelled : first (λ m. need (sameBytes (monthName m) (lettersOf m)) 0 0 0) 1 12 ≡ accepted
-unfolding first sameBytes monthName monthNames
+unfolding first sameBytes monthName monthNames letterIn
 names-spelled = refl
 
 pub name-spelled : (m : ℕ) → 1 ≤ m → m ≤ 12 → monthName m ≡ lettersOf m
@@ -69,34 +76,34 @@ name-back name u = sym (same-is name (monthName (monthIn name)) (find-at (isName
 
 -- ---- the month of two letters, as the code has it
 
-abbrev pub byLetters : List ℕ
-byLetters =
-    1 ∷ 7 ∷ 4 ∷ 6 ∷ 1 ∷ 11 ∷ 1 ∷ 2 ∷ 12 ∷ 1 ∷ 1 ∷ 1 ∷ 1 ∷ 1 ∷ 1 ∷ 1
-    ∷ 1 ∷ 1 ∷ 1 ∷ 3 ∷ 1 ∷ 9 ∷ 1 ∷ 10 ∷ 1 ∷ 1 ∷ 5 ∷ 1 ∷ 8 ∷ 1 ∷ 1 ∷ 1 ∷ []
+abbrev pub byLetters : ℕ → ℕ
+byLetters k = 9627747546949564177 / 2 ^ (4 * k) % 16
 
-guesses-months : first (λ k. need (leb 1 (getD byLetters k 0) && leb (getD byLetters k 0) 12) 0 0 0) 0 32 ≡ accepted
+guesses-months : first (λ k. need (leb 1 (byLetters k) && leb (byLetters k) 12) 0 0 0) 0 16 ≡ accepted
 unfolding first
 guesses-months = refl
 
-pub guess-month : (k : ℕ) → k < 32 → (1 ≤ getD byLetters k 0) × (getD byLetters k 0 ≤ 12)
+pub guess-month : (k : ℕ) → k < 16 → (1 ≤ byLetters k) × (byLetters k ≤ 12)
 guess-month k u =
-    let h = and-T (leb 1 (getD byLetters k 0)) (leb (getD byLetters k 0) 12) .0 (each-passes (λ k. leb 1 (getD byLetters k 0) && leb (getD byLetters k 0) 12) 0 32 guesses-months k (omega arith) (omega arith)) in
-    (leb→le 1 (getD byLetters k 0) (h .0), leb→le (getD byLetters k 0) 12 (h .1))
+    let h = and-T (leb 1 (byLetters k)) (leb (byLetters k) 12) .0 (each-passes (λ k. leb 1 (byLetters k) && leb (byLetters k) 12) 0 16 guesses-months k (omega arith) (omega arith)) in
+    (leb→le 1 (byLetters k) (h .0), leb→le (byLetters k) 12 (h .1))
 
-abbrev guessed : ℕ → Bool
-guessed m = eqb (getD byLetters ((byteAt (monthName m) 1 + byteAt (monthName m) 2) % 32) 0) m
+abbrev guess : ℕ → ℕ → ℕ
+guess x y = byLetters ((x + 15 * y) / 4 % 16)
 
-names-guessed : first (λ m. need (guessed m) 0 0 0) 1 12 ≡ accepted
+names-guessed : first (λ m. need (eqb (guess (byteAt (monthName m) 1) (byteAt (monthName m) 2)) m) 0 0 0) 1 12 ≡ accepted
 unfolding first monthName monthNames byteAt
 names-guessed = refl
 
-pub guess-right : (x y m : ℕ) → 1 ≤ m → m ≤ 12 → byteAt (monthName m) 1 ≡ x → byteAt (monthName m) 2 ≡ y → getD byLetters ((x + y) % 32) 0 ≡ m
-guess-right x y m l u e f = rw (← e, ← f) (eqb→eq (getD byLetters ((byteAt (monthName m) 1 + byteAt (monthName m) 2) % 32) 0) m (each-passes guessed 1 12 names-guessed m l (omega arith)))
+pub guess-right : (x y m : ℕ) → 1 ≤ m → m ≤ 12 → byteAt (monthName m) 1 ≡ x → byteAt (monthName m) 2 ≡ y → guess x y ≡ m
+guess-right x y m l u e f =
+    rw (← e, ← f)
+    (eqb→eq (guess (byteAt (monthName m) 1) (byteAt (monthName m) 2)) m (each-passes (λ m. eqb (guess (byteAt (monthName m) 1) (byteAt (monthName m) 2)) m) 1 12 names-guessed m l (omega arith)))
 
 -- ---- the month of a name of three letters
 
 module _ (x y z m : ℕ) (l : 1 ≤ m) (u : m ≤ 12) where
-  pub is-month : x ≡ getD letters (3 * (m - 1)) 0 → y ≡ getD letters (3 * (m - 1) + 1) 0 → z ≡ getD letters (3 * (m - 1) + 2) 0 → m ≡ monthIn (x ∷ y ∷ z ∷ [])
+  pub is-month : x ≡ letterIn firsts m → y ≡ letterIn seconds m → z ≡ letterIn thirds m → m ≡ monthIn (x ∷ y ∷ z ∷ [])
   is-month e f g = sym (rw (e, f, g, ← name-spelled m l u) (month-back m l u))
 
   module _ (only : (k : ℕ) → 1 ≤ k → k ≤ 12 → byteAt (monthName k) 1 ≡ y → byteAt (monthName k) 2 ≡ z → m ≡ k) where
@@ -114,11 +121,11 @@ module _ (x y z m : ℕ) (l : 1 ≤ m) (u : m ≤ 12) where
             absurd (h (sym q ∙ ap monthName (sym same) ∙ name-spelled m l u))
         go (inr k) = omega (arith, month-last name)
 
-    pub first-differs : (x ≡ getD letters (3 * (m - 1)) 0 → ⊥) → 13 ≡ monthIn (x ∷ y ∷ z ∷ [])
+    pub first-differs : (x ≡ letterIn firsts m → ⊥) → 13 ≡ monthIn (x ∷ y ∷ z ∷ [])
     first-differs h = no-month (λ e. h (ap (λ (n : List ℕ). getD n 0 0) e))
 
-    pub second-differs : (y ≡ getD letters (3 * (m - 1) + 1) 0 → ⊥) → 13 ≡ monthIn (x ∷ y ∷ z ∷ [])
+    pub second-differs : (y ≡ letterIn seconds m → ⊥) → 13 ≡ monthIn (x ∷ y ∷ z ∷ [])
     second-differs h = no-month (λ e. h (ap (λ (n : List ℕ). getD n 1 0) e))
 
-    pub third-differs : (z ≡ getD letters (3 * (m - 1) + 2) 0 → ⊥) → 13 ≡ monthIn (x ∷ y ∷ z ∷ [])
+    pub third-differs : (z ≡ letterIn thirds m → ⊥) → 13 ≡ monthIn (x ∷ y ∷ z ∷ [])
     third-differs h = no-month (λ e. h (ap (λ (n : List ℕ). getD n 2 0) e))

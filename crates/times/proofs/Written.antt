@@ -19,9 +19,10 @@ use Rattle.text.proofs.Numbers.{all-digits}
 use Rattle.calendar.specs.declared.Date.{Date}
 use Rattle.times.specs.declared.Moment.{Moment}
 use Rattle.times.specs.Times.{inDigits, monthName, dateText, clockText, textOf, monthIn, dateIn, momentIn}
+use Rattle.times.specs.Letters.{letterIn}
 use Rattle.times.specs.Formed.{areDigits, isByte, dateFormed, clockFormed, formed}
 use Rattle.times.proofs.Digits.{number-back, digit-fits, part-last, digits-back, part-join}
-use Rattle.times.proofs.Months.{letters, lettersOf, name-spelled, month-back, name-back}
+use Rattle.times.proofs.Months.{firsts, seconds, thirds, name-spelled, month-back, name-back}
 
 -- ---- the 27 bytes one by one
 
@@ -32,7 +33,7 @@ spelled a b c m =
     ++ 58 ∷ inDigits 2 (m .second) ++ 46 ∷ inDigits 6 (m .microsecond)
 
 abbrev spelledOut : Moment → List ℕ
-spelledOut m = spelled (getD letters (3 * (m .date .month - 1)) 0) (getD letters (3 * (m .date .month - 1) + 1) 0) (getD letters (3 * (m .date .month - 1) + 2) 0) m
+spelledOut m = spelled (letterIn firsts (m .date .month)) (letterIn seconds (m .date .month)) (letterIn thirds (m .date .month)) m
 
 module _ (m : Moment) (january : 1 ≤ m .date .month) (december : m .date .month ≤ 12) where
   pub is-spelled : textOf m ≡ spelledOut m
@@ -45,7 +46,7 @@ module _ (m : Moment) (january : 1 ≤ m .date .month) (december : m .date .mont
 
   -- as the code writes them
   pub as-written : (48 + m .date .day / 10 % 10) ∷ (48 + m .date .day % 10) ∷ 45
-      ∷ getD letters (3 * (m .date .month - 1)) 0 ∷ getD letters (3 * (m .date .month - 1) + 1) 0 ∷ getD letters (3 * (m .date .month - 1) + 2) 0 ∷ 45
+      ∷ letterIn firsts (m .date .month) ∷ letterIn seconds (m .date .month) ∷ letterIn thirds (m .date .month) ∷ 45
       ∷ (48 + m .date .year / 1000 % 10) ∷ (48 + m .date .year / 100 % 10) ∷ (48 + m .date .year / 10 % 10) ∷ (48 + m .date .year % 10) ∷ 32
       ∷ (48 + m .hour / 10 % 10) ∷ (48 + m .hour % 10) ∷ 58 ∷ (48 + m .minute / 10 % 10) ∷ (48 + m .minute % 10) ∷ 58
       ∷ (48 + m .second / 10 % 10) ∷ (48 + m .second % 10) ∷ 46

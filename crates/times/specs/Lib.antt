@@ -1,3 +1,4 @@
 pub mod Times
 pub mod Order
 pub mod Formed
+pub mod Letters

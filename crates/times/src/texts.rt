@@ -7,45 +7,27 @@ ghost use lib.Dec.{T};
 ghost use lib.ListN.{length};
 ghost use Rattle.layout.specs.Bytes.{part, byteAt};
 ghost use Rattle.times.specs.Times.{monthName, textOf, monthIn, dateIn, momentIn};
+ghost use Rattle.times.specs.Letters.{letterIn};
 ghost use Rattle.times.specs.Formed.{dateFormed, clockFormed, formed};
 
-const MONTH_NAMES: [u8; 36] = *b"JANFEBMARAPRMAYJUNJULAUGSEPOCTNOVDEC";
+// The first, second and third letters of the months' names, from January on five bits each, A being 1. A table that is asked at a place not known before is
+// copied each time; a number is not.
+const FIRST_LETTERS: u64 = 0x239_f30a_94d0_b4ca;
 
-// The month by the remainder of the sum of its second and third letters by 32, which differs from month to month; January, where there is none.
-const MONTH_OF_LETTERS: [usize; 32] = [
-    1,
-    7,
-    4,
-    6,
-    1,
-    11,
-    1,
-    2,
-    12,
-    1,
-    1,
-    1,
-    1,
-    1,
-    1,
-    1,
-    1,
-    1,
-    1,
-    3,
-    1,
-    9,
-    1,
-    10,
-    1,
-    1,
-    5,
-    1,
-    8,
-    1,
-    1,
-    1,
-];
+const SECOND_LETTERS: u64 = 0x2bc_65ad_6a18_04a1;
+
+const THIRD_LETTERS: u64 = 0x1da_903b_1d99_484e;
+
+// The months by a number from 0 to 15 that the second and third letters give and no two months share, four bits each; January, where no month has it.
+const MONTHS_BY_LETTERS: u64 = 0x859c_a162_4b11_3711;
+
+// A letter of a month's name.
+fn letter(letters: u64, month: u32) -> u8
+    requires { ⌜ (1 ≤ month) × (month ≤ 12) ⌝ }
+    ensures { λ r. ⌜ r ≡ letterIn letters month ⌝ }
+{
+    (64 + (letters >> (5 * (month - 1))) % 32) as u8
+}
 
 // The last digit of a number.
 fn digit(number: u32) -> u8
@@ -59,14 +41,13 @@ pub fn text_of(moment: Moment) -> [u8; 27]
     ensures { λ r. ⌜ r ≡ textOf moment ⌝ }
 {
     let date = moment.date;
-    let name = 3 * (date.month as usize - 1);
     [
         digit(date.day / 10),
         digit(date.day),
         b'-',
-        MONTH_NAMES[name],
-        MONTH_NAMES[name + 1],
-        MONTH_NAMES[name + 2],
+        letter(FIRST_LETTERS, date.month),
+        letter(SECOND_LETTERS, date.month),
+        letter(THIRD_LETTERS, date.month),
         b'-',
         digit(date.year / 1000),
         digit(date.year / 100),
@@ -125,10 +106,11 @@ pub fn is_formed(text: &[u8]) -> bool
 }
 
 // The only month that can have these second and third letters.
-fn month_of_letters(second: u8, third: u8) -> usize
+fn month_of_letters(second: u8, third: u8) -> u32
     ensures { λ r. ⌜ ((1 ≤ r) × (r ≤ 12)) × ((m : ℕ) → 1 ≤ m → m ≤ 12 → byteAt (monthName m) 1 ≡ second → byteAt (monthName m) 2 ≡ third → r ≡ m) ⌝ }
 {
-    MONTH_OF_LETTERS[(second as usize + third as usize) % 32]
+    let number = (second as u32 + 15 * (third as u32)) / 4 % 16;
+    ((MONTHS_BY_LETTERS >> (4 * number)) % 16) as u32
 }
 
 // The month that the text names, or 13.
@@ -137,17 +119,16 @@ fn month_in(text: &[u8]) -> u32
     ensures { λ r. ⌜ r ≡ monthIn (part (now (text .entry)) 3 3) ⌝ }
 {
     let month = month_of_letters(text[4], text[5]);
-    let name = 3 * (month - 1);
-    if text[3] != MONTH_NAMES[name] {
+    if text[3] != letter(FIRST_LETTERS, month) {
         return 13;
     }
-    if text[4] != MONTH_NAMES[name + 1] {
+    if text[4] != letter(SECOND_LETTERS, month) {
         return 13;
     }
-    if text[5] != MONTH_NAMES[name + 2] {
+    if text[5] != letter(THIRD_LETTERS, month) {
         return 13;
     }
-    month as u32
+    month
 }
 
 fn date_in(text: &[u8]) -> Date

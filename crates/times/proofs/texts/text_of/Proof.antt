@@ -1,23 +1,11 @@
 -- `times::texts::text_of` meets its contract.
 -- Assumes nothing.
-use Prim.Native.Nat.{_+_, _*_, _-_}
 use mathlib.Core.List.{[], _∷_}
 use mathlib.Core.Path.{_∙_}
-use lib.ListN.{getD}
 use borrow.Author.Needs.{needs}
-use Rattle.times.proofs.Months.{letters}
 use Rattle.times.proofs.Written.{as-written}
 use Rattle.times.proofs.texts.text_of.Statement.{statement}
 use Rattle.times.proofs.texts.text_of.Tie as tie
-
-cast-name : tie.Need-cast-name
-cast-name c = search needs
-
-sub-name : tie.Need-sub-name
-sub-name c = search needs
-
-mul-name : tie.Need-mul-name
-mul-name c = search needs
 
 digit-requires : tie.Need-digit-requires
 digit-requires c κs = search needs
@@ -25,20 +13,14 @@ digit-requires c κs = search needs
 digit-requires-2 : tie.Need-digit-requires-2
 digit-requires-2 c κs = search needs
 
-array-read-t12 : tie.Need-array-read-t12
-array-read-t12 c = search needs
+letter-requires : tie.Need-letter-requires
+letter-requires c κs = search needs
 
-add-t4 : tie.Need-add-t4
-add-t4 c = search needs
+letter-requires-2 : tie.Need-letter-requires-2
+letter-requires-2 c κs = search needs
 
-array-read-t16 : tie.Need-array-read-t16
-array-read-t16 c = search needs
-
-add-t5 : tie.Need-add-t5
-add-t5 c = search needs
-
-array-read-t20 : tie.Need-array-read-t20
-array-read-t20 c = search needs
+letter-requires-3 : tie.Need-letter-requires-3
+letter-requires-3 c κs = search needs
 
 digit-requires-3 : tie.Need-digit-requires-3
 digit-requires-3 c κs = search needs
@@ -90,14 +72,13 @@ digit-requires-18 c κs = search needs
 
 returns : tie.Need-returns
 returns c =
-    let moment = c .before .before .before .before .before .before .before .before .before .before .before .before .before .before .before .before .before .before .before .before .before .before .before .before .before .before .before .before .before .before .before .before .args .moment in
-    let month = c .before .before .before .before .before .before .before .before .before .before .before .before .before .before .before .before .before .before .before .before .before .before .before .before .before .before .before .before .before .before .before .before .pre in
-    (λ j. c .before .before .before .before .before .before .before .before .before .before .before .before .before .before .before .before .before .before .before .before .before .before .before .before .before .before .before .before .digit .ensures j
-    ∷ c .before .before .before .before .before .before .before .before .before .before .before .before .before .before .before .before .before .before .before .before .before .before .before .before .before .before .before .digit2 .ensures j
+    let start = c .before .before .before .before .before .before .before .before .before .before .before .before .before .before .before .before .before .before .before .before .before .before .before .before .before .before .before .before .before .before .before .before .before .before in
+    (λ j. c .before .before .before .before .before .before .before .before .before .before .before .before .before .before .before .before .before .before .before .before .before .before .before .before .before .before .before .before .before .before .before .digit .ensures j
+    ∷ c .before .before .before .before .before .before .before .before .before .before .before .before .before .before .before .before .before .before .before .before .before .before .before .before .before .before .before .before .before .before .digit2 .ensures j
     ∷ 45
-    ∷ getD letters (3 * (moment .date .month - 1)) 0
-    ∷ getD letters (3 * (moment .date .month - 1) + 1) 0
-    ∷ getD letters (3 * (moment .date .month - 1) + 2) 0
+    ∷ c .before .before .before .before .before .before .before .before .before .before .before .before .before .before .before .before .before .before .before .before .before .before .before .before .before .before .before .before .before .letter .ensures j
+    ∷ c .before .before .before .before .before .before .before .before .before .before .before .before .before .before .before .before .before .before .before .before .before .before .before .before .before .before .before .before .letter2 .ensures j
+    ∷ c .before .before .before .before .before .before .before .before .before .before .before .before .before .before .before .before .before .before .before .before .before .before .before .before .before .before .before .letter3 .ensures j
     ∷ 45
     ∷ c .before .before .before .before .before .before .before .before .before .before .before .before .before .before .before .before .before .before .before .before .before .before .before .before .before .digit3 .ensures j
     ∷ c .before .before .before .before .before .before .before .before .before .before .before .before .before .before .before .before .before .before .before .before .before .before .before .digit4 .ensures j
@@ -119,22 +100,17 @@ returns c =
     ∷ c .before .before .before .digit16 .ensures j
     ∷ c .before .digit17 .ensures j
     ∷ c .digit18 .ensures j ∷ [])
-    ∙ as-written moment (month .0) (month .1)
+    ∙ as-written (start .args .moment) (start .pre .0) (start .pre .1)
 
 pub text-of-spec : {M : Type 1} → statement M
 text-of-spec =
     tie.close
     (tie.spec
-    cast-name
-    sub-name
-    mul-name
     digit-requires
     digit-requires-2
-    array-read-t12
-    add-t4
-    array-read-t16
-    add-t5
-    array-read-t20
+    letter-requires
+    letter-requires-2
+    letter-requires-3
     digit-requires-3
     digit-requires-4
     digit-requires-5
