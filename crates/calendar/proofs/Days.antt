@@ -7,12 +7,11 @@ use mathlib.Core.Path.{_≡_, refl, sym, ap, _∙_}
 use native.Mathlib.Omega.{arith}
 use lib.Dec.{T, leb, ltb, eqb, leb→le, ltb→lt, eqb→eq}
 use lib.ListN.{take, getD}
-use borrow.Author.Tests.{lt-ltb, le-ltb}
 use Rattle.layout.specs.Answer.{Answer, need, accepted}
 use Rattle.layout.specs.Search.{first, sum}
 use Rattle.layout.proofs.Laws.{and-T, need-accepts, first-accepts}
 use Rattle.calendar.specs.Calendar.{leap, months, daysOfYear, years}
-use Rattle.calendar.specs.Even.{evenDays}
+use Rattle.calendar.specs.Even.{missing, fromOn, evenDays}
 
 -- a test that each of n numbers passes, by computing it for each
 pub each-passes : (t : ℕ → Bool) (i n : ℕ) → first (λ k. need (t k) 0 0 0) i n ≡ accepted → (k : ℕ) → i ≤ k → k < i + n → T (t k)
@@ -49,67 +48,47 @@ abbrev even : ℕ → ℕ
 even k = (367 * k + 5) / 12
 
 abbrev counts : Bool → ℕ → Bool
-counts long k = eqb (cond (ltb k 2) (even k) (cond long (even k - 1) (even k - 2))) (sum (take k (months long))) && leb (sum (take k (months long))) 366
+counts long k = eqb (even k - fromOn k 2 (missing long)) (sum (take k (months long))) && (leb (sum (take k (months long))) 366 && leb (fromOn k 2 (missing long)) (even k))
 
 months-counted : (long : Bool) → first (λ k. need (counts long k) 0 0 0) 0 13 ≡ accepted
-unfolding first sum months
+unfolding first sum months fromOn missing
 months-counted true = refl
 months-counted false = refl
 
 module _ (long : Bool) (k : ℕ) (u : k ≤ 12) where
-  counted : (cond (ltb k 2) (even k) (cond long (even k - 1) (even k - 2)) ≡ sum (take k (months long))) × (sum (take k (months long)) ≤ 366)
+  pub counted : (even k - fromOn k 2 (missing long) ≡ sum (take k (months long))) × ((sum (take k (months long)) ≤ 366) × (fromOn k 2 (missing long) ≤ even k))
   counted =
-      let n = cond (ltb k 2) (even k) (cond long (even k - 1) (even k - 2)) in
+      let n = even k - fromOn k 2 (missing long) in
       let m = sum (take k (months long)) in
-      let h = and-T (eqb n m) (leb m 366) .0 (each-passes (counts long) 0 13 (months-counted long) k (omega arith) (omega arith)) in
-      (eqb→eq n m (h .0), leb→le m 366 (h .1))
+      let h = and-T (eqb n m) (leb m 366 && leb (fromOn k 2 (missing long)) (even k)) .0 (each-passes (counts long) 0 13 (months-counted long) k (omega arith) (omega arith)) in
+      let l = and-T (leb m 366) (leb (fromOn k 2 (missing long)) (even k)) .0 (h .1) in
+      (eqb→eq n m (h .0), (leb→le m 366 (l .0), leb→le (fromOn k 2 (missing long)) (even k) (l .1)))
 
-  abbrev Is : ℕ → Type 0
-  Is n = (n ≡ sum (take k (months long))) × (n ≤ 366)
+  -- as the code subtracts
+  module _ {many less : ℕ} (e : many ≡ missing long) (f : less ≡ fromOn k 2 many) where
+    pub months-are : (even k - less ≡ sum (take k (months long))) × (even k - less ≤ 366)
+    months-are = rw (f, e) (counted .0, omega (arith, counted .0, counted .1 .0))
 
-  is-days : (n : ℕ) → n ≡ sum (take k (months long)) → Is n
-  is-days n e = (e, rw e (counted .1))
-
-  -- before March
-  pub before-march : k < 2 → Is (even k)
-  before-march h = is-days (even k) (rw (lt-ltb k 2 h) at (counted .0))
-
-  -- from March on, with or without 29 February
-  pub leap-march : 2 ≤ k → long ≡ true → Is (even k - 1)
-  leap-march h e = is-days (even k - 1) (rw (le-ltb k 2 h, e) at (counted .0) ∙ rw e)
-
-  pub from-march : 2 ≤ k → long ≡ false → Is (even k - 2)
-  from-march h e = is-days (even k - 2) (rw (le-ltb k 2 h, e) at (counted .0) ∙ rw e)
+    pub months-fit : less ≤ even k
+    months-fit = rw (f, e) (counted .1 .1)
 
 -- ---- the month that a day of a year falls in
 
 -- the days with a February of 30
 module _ (long : Bool) (d : ℕ) where
-  pub early-leap : long ≡ true → d < 60 → d ≡ evenDays long d
+  pub even-days : {many more : ℕ} → many ≡ missing long → more ≡ fromOn d (61 - many) many → d + more ≡ evenDays long d
   unfolding evenDays
-  early-leap e h = rw (e, lt-ltb d 60 h)
-
-  pub late-leap : long ≡ true → 60 ≤ d → d + 1 ≡ evenDays long d
-  unfolding evenDays
-  late-leap e h = rw (e, le-ltb d 60 h)
-
-  pub early : long ≡ false → d < 59 → d ≡ evenDays long d
-  unfolding evenDays
-  early e h = rw (e, lt-ltb d 59 h)
-
-  pub late : long ≡ false → 59 ≤ d → d + 2 ≡ evenDays long d
-  unfolding evenDays
-  late e h = rw (e, le-ltb d 59 h)
+  even-days e f = rw (f, e)
 
   pub even-most : evenDays long d ≤ d + 2
-  unfolding evenDays
-  even-most = go long (ltb d 60) (ltb d 59)
+  unfolding evenDays fromOn missing
+  even-most = go long (ltb d (61 - missing long))
     where
-      go : (l u v : Bool) → cond l (cond u d (d + 1)) (cond v d (d + 2)) ≤ d + 2
-      go true true v = omega arith
-      go true false v = omega arith
-      go false u true = omega arith
-      go false u false = omega arith
+      go : (l u : Bool) → d + cond u 0 (cond l 1 2) ≤ d + 2
+      go true true = omega arith
+      go true false = omega arith
+      go false true = omega arith
+      go false false = omega arith
 
 -- the months that are over
 abbrev pub overOf : Bool → ℕ → ℕ
@@ -119,7 +98,7 @@ abbrev inMonth : Bool → ℕ → Bool
 inMonth long r = leb (sum (take (overOf long r) (months long))) r && (ltb r (sum (take (suc (overOf long r)) (months long))) && leb (overOf long r) 11)
 
 months-found : (long : Bool) → first (λ r. need (inMonth long r) 0 0 0) 0 (sum (months long)) ≡ accepted
-unfolding first sum months evenDays
+unfolding first sum months evenDays fromOn missing
 months-found true = refl
 months-found false = refl
 

@@ -5,7 +5,7 @@ ghost use lib.Dec.{T};
 ghost use lib.ListN.{take};
 ghost use Rattle.layout.specs.Search.{sum};
 ghost use Rattle.calendar.specs.Calendar.{leap, months, validDate, daysBefore};
-ghost use Rattle.calendar.specs.Even.{evenDays};
+ghost use Rattle.calendar.specs.Even.{missing, fromOn, evenDays};
 
 // A date, January being month 1.
 pub struct Date {
@@ -22,19 +22,33 @@ fn is_leap(year: u32) -> bool
     year % 4 == 0
 }
 
+// The days that February has less than 30.
+fn missing_days(long: bool) -> u32
+    ensures { λ r. ⌜ (r ≡ missing long) × (r ≤ 2) ⌝ }
+{
+    if long {
+        return 1;
+    }
+    2
+}
+
+// So many from a number on, and none below it. Asked for in this form, both ways cost the same, whichever year or month it is.
+fn from_on(number: u32, least: u32, many: u32) -> u32
+    ensures { λ r. ⌜ r ≡ fromOn number least many ⌝ }
+{
+    if number < least {
+        return 0;
+    }
+    many
+}
+
 // The days of so many first months of a year. Had February 30 days, twelve months would have 367, and so many months as many twelfths of it.
 fn days_of_months(long: bool, count: u32) -> u32
     requires { ⌜ count ≤ 12 ⌝ }
     ensures { λ r. ⌜ (r ≡ sum (take count (months long))) × (r ≤ 366) ⌝ }
 {
-    let days = (367 * count + 5) / 12;
-    if count < 2 {
-        return days;
-    }
-    if long {
-        return days - 1;
-    }
-    days - 2
+    let missing = missing_days(long);
+    (367 * count + 5) / 12 - from_on(count, 2, missing)
 }
 
 // A date of the range.
@@ -74,16 +88,8 @@ fn days_of_even_months(long: bool, days: u32) -> u32
     requires { ⌜ days ≤ 366 ⌝ }
     ensures { λ r. ⌜ r ≡ evenDays long days ⌝ }
 {
-    if long {
-        if days < 60 {
-            return days;
-        }
-        return days + 1;
-    }
-    if days < 59 {
-        return days;
-    }
-    days + 2
+    let missing = missing_days(long);
+    days + from_on(days, 61 - missing, missing)
 }
 
 // How many months of a year are over on a day, by the days of the year before it.

@@ -162,8 +162,7 @@ fn is_digit(x: u8) -> bool
     (48 <= x) & (x <= 57)
 }
 
-// The n bytes from `at` on are digits.
-pub fn digits_in(p: &[u8], at: usize, n: usize) -> bool
+fn digits_in(p: &[u8], at: usize, n: usize) -> bool
     requires { ⌜ at + n ≤ length (now p) ⌝ }
     ensures { λ r. ⌜ r ≡ not (some (fails (fits digit) (now (p .entry))) at n) ⌝ }
 {

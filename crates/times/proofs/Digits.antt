@@ -6,7 +6,7 @@ use mathlib.Core.List.{List, [], _∷_, _++_}
 use mathlib.Core.Path.{_≡_, refl, sym, ap, _∙_}
 use native.Mathlib.Omega.{arith}
 use native.Mathlib.Numerals.{add-one}
-use lib.Dec.{T, eqb}
+use lib.Dec.{T, leb, eqb}
 use lib.ListN.{length, take, drop, getD, length-drop}
 use lib.Seq.{take-suc, getD-drop, take-add, drop-drop}
 use borrow.Author.Tests.{ne-eqb, le-leb}
@@ -33,9 +33,11 @@ unfolding inDigits
 number-back zero n h = no-digits ∙ omega arith
 number-back (suc w) n h = rw (digits-last 0 (48 + n % 10) (inDigits w (n / 10)) (λ e. omega arith), number-back w (n / 10) (omega arith)) (omega arith)
 
-pub digit-fits : (n : ℕ) → fits digit (48 + n % 10) ≡ true
-unfolding fits
-digit-fits n = rw (le-leb 48 (48 + n % 10) (omega arith), le-leb (48 + n % 10) 57 (omega arith))
+pub least-digit : (n : ℕ) → leb 48 (48 + n % 10) ≡ true
+least-digit n = le-leb 48 (48 + n % 10) (omega arith)
+
+pub most-digit : (n : ℕ) → leb (48 + n % 10) 57 ≡ true
+most-digit n = le-leb (48 + n % 10) 57 (omega arith)
 
 -- ---- from digits to their number and back
 

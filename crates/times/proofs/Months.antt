@@ -12,6 +12,7 @@ use Rattle.layout.specs.Bytes.{bytes, byteAt}
 use Rattle.layout.specs.Answer.{need, accepted}
 use Rattle.layout.specs.Search.{first, find}
 use Rattle.layout.proofs.Laws.{and-T, lt-or-le, find-bounds, find-at}
+use Rattle.layout.proofs.Tests.{is-true}
 use Rattle.calendar.proofs.Days.{each-passes}
 use Rattle.times.specs.Letters.{letterIn}
 use Rattle.times.specs.Times.{monthNames, monthName, sameBytes, isNamed, monthIn}
@@ -52,6 +53,27 @@ names-spelled = refl
 
 pub name-spelled : (m : ℕ) → 1 ≤ m → m ≤ 12 → monthName m ≡ lettersOf m
 name-spelled m l u = same-is (monthName m) (lettersOf m) (each-passes (λ m. sameBytes (monthName m) (lettersOf m)) 1 12 names-spelled m l (omega arith))
+
+-- each is a capital
+abbrev capital : ℕ → Bool
+capital x = leb 65 x && leb x 90
+
+names-capital : first (λ m. need (capital (letterIn firsts m) && (capital (letterIn seconds m) && capital (letterIn thirds m))) 0 0 0) 1 12 ≡ accepted
+unfolding first letterIn
+names-capital = refl
+
+abbrev Capital : ℕ → Type 0
+Capital x = (leb 65 x ≡ true) × (leb x 90 ≡ true)
+
+pub capitals : (m : ℕ) → 1 ≤ m → m ≤ 12 → Capital (letterIn firsts m) × (Capital (letterIn seconds m) × Capital (letterIn thirds m))
+capitals m l u =
+    let h = and-T (capital (letterIn firsts m)) (capital (letterIn seconds m) && capital (letterIn thirds m)) .0
+    (each-passes (λ m. capital (letterIn firsts m) && (capital (letterIn seconds m) && capital (letterIn thirds m))) 1 12 names-capital m l (omega arith)) in
+    let k = and-T (capital (letterIn seconds m)) (capital (letterIn thirds m)) .0 (h .1) in
+    (both (letterIn firsts m) (h .0), (both (letterIn seconds m) (k .0), both (letterIn thirds m) (k .1)))
+  where
+    both : (x : ℕ) → T (capital x) → Capital x
+    both x h = let r = and-T (leb 65 x) (leb x 90) .0 h in (is-true (leb 65 x) (r .0), is-true (leb x 90) (r .1))
 
 -- ---- the month of a name
 

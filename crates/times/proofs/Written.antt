@@ -1,28 +1,65 @@
 -- A moment's text is of the form that the code tests and is read as that moment; a text of the form is the text of the moment that it is read as.
 -- Assumes nothing.
 use Prim.Native.Nat.{ℕ, zero, suc, _+_, _*_, _-_, _/_, _%_, _^_, _≤_, _<_}
-use mathlib.Core.Bool.{Bool, true, false, _&&_, not}
+use mathlib.Core.Bool.{Bool, true, false, _&&_, not, false≢true}
 use mathlib.Core.List.{List, [], _∷_, _++_}
 use mathlib.Core.Path.{_≡_, refl, sym, ap, _∙_}
 use native.Mathlib.Omega.{arith}
-use lib.Dec.{T, eqb, eqb→eq}
+use lib.Dec.{T, leb, eqb, leb→le, le→leb, eqb→eq}
 use lib.ListN.{length, take, drop, getD}
 use lib.Seq.{take-all}
-use Rattle.layout.specs.Bytes.{bytes, part, byteAt}
-use Rattle.layout.specs.Search.{some}
+use Rattle.layout.specs.Bytes.{bytes, part, byteAt, within}
+use Rattle.layout.specs.Answer.{need, accepted}
+use Rattle.layout.specs.Search.{first, some}
 use Rattle.layout.specs.Text.{digit, fits, digits}
-use Rattle.layout.proofs.Laws.{and-T}
+use Rattle.layout.proofs.Laws.{and-T, not-not, not-not-T}
 use Rattle.layout.proofs.Tests.{is-true}
-use Rattle.text.specs.Runs.{fails}
 use Rattle.text.specs.Numbers.{AllDigits}
-use Rattle.text.proofs.Numbers.{all-digits}
+use Rattle.text.proofs.Runs.{tested}
+use Rattle.calendar.proofs.Days.{each-passes}
 use Rattle.calendar.specs.declared.Date.{Date}
 use Rattle.times.specs.declared.Moment.{Moment}
 use Rattle.times.specs.Times.{inDigits, monthName, dateText, clockText, textOf, monthIn, dateIn, momentIn}
 use Rattle.times.specs.Letters.{letterIn}
-use Rattle.times.specs.Formed.{areDigits, isByte, dateFormed, clockFormed, formed}
-use Rattle.times.proofs.Digits.{number-back, digit-fits, part-last, digits-back, part-join}
-use Rattle.times.proofs.Months.{firsts, seconds, thirds, name-spelled, month-back, name-back}
+use Rattle.times.specs.Formed.{lowest, highest, outside, formed, pairOf}
+use Rattle.times.proofs.Digits.{number-back, least-digit, most-digit, part-last, digits-back, part-join}
+use Rattle.times.proofs.Months.{firsts, seconds, thirds, capitals, name-spelled, month-back, name-back}
+
+-- ---- digits in pairs
+
+module _ (n : ℕ) where
+  tens : n % 100 / 10 % 10 ≡ n / 10 % 10
+  tens = omega arith
+
+  ones : n % 100 % 10 ≡ n % 10
+  ones = omega arith
+
+  hundred : n / 100 ≡ n / 10 / 10
+  hundred = omega arith
+
+  hundreds : n / 100 / 10 ≡ n / 10 / 10 / 10
+  hundreds = omega arith
+
+  ten-thousand : n / 10000 ≡ n / 10 / 10 / 10 / 10
+  ten-thousand = omega arith
+
+-- the bytes of a pair
+abbrev paired : ℕ → Bool
+paired n = eqb (pairOf n % 256) (48 + n / 10 % 10) && eqb (pairOf n / 256 % 256) (48 + n % 10)
+
+all-paired : first (λ n. need (paired n) 0 0 0) 0 100 ≡ accepted
+unfolding first pairOf
+all-paired = refl
+
+module _ (n : ℕ) (h : n < 100) where
+  both-paired : T (eqb (pairOf n % 256) (48 + n / 10 % 10)) × T (eqb (pairOf n / 256 % 256) (48 + n % 10))
+  both-paired = and-T (eqb (pairOf n % 256) (48 + n / 10 % 10)) (eqb (pairOf n / 256 % 256) (48 + n % 10)) .0 (each-passes paired 0 100 all-paired n (omega arith) (omega arith))
+
+  pub first-digit : {r p : ℕ} → r ≡ p % 256 → p ≡ pairOf n → r ≡ 48 + n / 10 % 10
+  first-digit e f = e ∙ rw f (eqb→eq (pairOf n % 256) (48 + n / 10 % 10) (both-paired .0))
+
+  pub second-digit : {r p : ℕ} → r ≡ p / 256 % 256 → p ≡ pairOf n → r ≡ 48 + n % 10
+  second-digit e f = e ∙ rw f (eqb→eq (pairOf n / 256 % 256) (48 + n % 10) (both-paired .1))
 
 -- ---- the 27 bytes one by one
 
@@ -44,35 +81,28 @@ module _ (m : Moment) (january : 1 ≤ m .date .month) (december : m .date .mont
   unfolding inDigits
   text-long = rw is-spelled
 
-  -- as the code writes them
+  -- as the code writes them, in pairs
   pub as-written : (48 + m .date .day / 10 % 10) ∷ (48 + m .date .day % 10) ∷ 45
       ∷ letterIn firsts (m .date .month) ∷ letterIn seconds (m .date .month) ∷ letterIn thirds (m .date .month) ∷ 45
-      ∷ (48 + m .date .year / 1000 % 10) ∷ (48 + m .date .year / 100 % 10) ∷ (48 + m .date .year / 10 % 10) ∷ (48 + m .date .year % 10) ∷ 32
+      ∷ (48 + m .date .year / 100 / 10 % 10) ∷ (48 + m .date .year / 100 % 10) ∷ (48 + m .date .year % 100 / 10 % 10) ∷ (48 + m .date .year % 100 % 10) ∷ 32
       ∷ (48 + m .hour / 10 % 10) ∷ (48 + m .hour % 10) ∷ 58 ∷ (48 + m .minute / 10 % 10) ∷ (48 + m .minute % 10) ∷ 58
       ∷ (48 + m .second / 10 % 10) ∷ (48 + m .second % 10) ∷ 46
-      ∷ (48 + m .microsecond / 100000 % 10) ∷ (48 + m .microsecond / 10000 % 10) ∷ (48 + m .microsecond / 1000 % 10)
-      ∷ (48 + m .microsecond / 100 % 10) ∷ (48 + m .microsecond / 10 % 10) ∷ (48 + m .microsecond % 10) ∷ [] ≡ textOf m
+      ∷ (48 + m .microsecond / 10000 / 10 % 10) ∷ (48 + m .microsecond / 10000 % 10) ∷ (48 + m .microsecond / 100 % 100 / 10 % 10)
+      ∷ (48 + m .microsecond / 100 % 100 % 10) ∷ (48 + m .microsecond % 100 / 10 % 10) ∷ (48 + m .microsecond % 100 % 10) ∷ [] ≡ textOf m
   unfolding inDigits
   as-written =
-      let hundred : (n : ℕ) → n / 100 ≡ n / 10 / 10 = λ n. omega arith in
-      let thousand : (n : ℕ) → n / 1000 ≡ n / 10 / 10 / 10 = λ n. omega arith in
-      let ten-thousand : (n : ℕ) → n / 10000 ≡ n / 10 / 10 / 10 / 10 = λ n. omega arith in
-      let hundred-thousand : (n : ℕ) → n / 100000 ≡ n / 10 / 10 / 10 / 10 / 10 = λ n. omega arith in
-      rw (is-spelled, hundred (m .date .year), thousand (m .date .year), hundred (m .microsecond), thousand (m .microsecond), ten-thousand (m .microsecond), hundred-thousand (m .microsecond))
+      let y = m .date .year in
+      let u = m .microsecond in
+      rw (is-spelled, tens y, ones y, hundreds y, hundred y, tens u, ones u, tens (u / 100), ones (u / 100), hundreds u, hundred u, ten-thousand u)
 
   -- ---- it is formed
 
-  date-formed : dateFormed (textOf m) ≡ true
-  unfolding dateFormed areDigits isByte some fails byteAt inDigits
-  date-formed = rw is-spelled (simp digit-fits refl)
-
-  clock-formed : clockFormed (textOf m) ≡ true
-  unfolding clockFormed areDigits isByte some fails byteAt inDigits
-  clock-formed = rw is-spelled (simp digit-fits refl)
-
   pub is-formed : formed (textOf m) ≡ true
-  unfolding formed
-  is-formed = rw (date-formed, clock-formed)
+  unfolding formed some outside lowest highest byteAt inDigits
+  is-formed =
+      let k = m .date .month in
+      let a = capitals k january december in
+      rw (is-spelled, a .0 .0, a .0 .1, a .1 .0 .0, a .1 .0 .1, a .1 .1 .0, a .1 .1 .1) (simp (least-digit, most-digit) refl)
 
   -- ---- it is read as the moment
 
@@ -137,34 +167,52 @@ pub record Form (t : List ℕ) : Type 0 where
   pub point : byteAt t 20 ≡ 46
   pub microsecond : AllDigits t 21 6
 
+-- the code's test of a place
+pub place-test : (t : List ℕ) (i : ℕ) → (leb (byteAt lowest i) (byteAt t i) && leb (byteAt t i) (byteAt highest i)) ≡ not (outside t i)
+unfolding outside
+place-test t i = sym (not-not (leb (byteAt lowest i) (byteAt t i) && leb (byteAt t i) (byteAt highest i)))
+
+abbrev digitPlace : ℕ → Bool
+digitPlace k = eqb (byteAt lowest k) 48 && eqb (byteAt highest k) 57
+
+module _ (t : List ℕ) (h : T (formed t)) where
+  placed : (k : ℕ) → k < 27 → (byteAt lowest k ≤ byteAt t k) × (byteAt t k ≤ byteAt highest k)
+  unfolding formed outside
+  placed k u =
+      let w = within (byteAt lowest k) (byteAt highest k) (byteAt t k) in
+      let r = and-T (leb (byteAt lowest k) (byteAt t k)) (leb (byteAt t k) (byteAt highest k)) .0
+      (not-not-T w .0 (λ o. false≢true (sym (tested (outside t) 27 0 (not (some (outside t) 0 27)) refl (is-true (not (some (outside t) 0 27)) h) k (omega arith) (omega arith)) ∙ is-true (not w) o))) in
+      (leb→le (byteAt lowest k) (byteAt t k) (r .0), leb→le (byteAt t k) (byteAt highest k) (r .1))
+
+  digits-told : (at n : ℕ) → at + n ≤ 27 → first (λ k. need (digitPlace k) 0 0 0) at n ≡ accepted → AllDigits t at n
+  unfolding fits
+  digits-told at n u all k l v =
+      let e = and-T (eqb (byteAt lowest k) 48) (eqb (byteAt highest k) 57) .0 (each-passes digitPlace at n all k l v) in
+      let p = placed k (omega arith) in
+      and-T (leb 48 (byteAt t k)) (leb (byteAt t k) 57) .1
+      (le→leb 48 (byteAt t k) (omega (arith, eqb→eq (byteAt lowest k) 48 (e .0), p .0)), le→leb (byteAt t k) 57 (omega (arith, eqb→eq (byteAt highest k) 57 (e .1), p .1)))
+
+  byte-told : (at x : ℕ) → at < 27 → byteAt lowest at ≡ x → byteAt highest at ≡ x → byteAt t at ≡ x
+  byte-told at x u e f = let p = placed at u in omega (arith, p .0, p .1)
+
+  pub form : Form t
+  unfolding first lowest highest byteAt
+  form = record {
+    day = digits-told 0 2 (omega arith) refl;
+    dash = byte-told 2 45 (omega arith) refl refl;
+    second-dash = byte-told 6 45 (omega arith) refl refl;
+    year = digits-told 7 4 (omega arith) refl;
+    blank = byte-told 11 32 (omega arith) refl refl;
+    hour = digits-told 12 2 (omega arith) refl;
+    colon = byte-told 14 58 (omega arith) refl refl;
+    minute = digits-told 15 2 (omega arith) refl;
+    second-colon = byte-told 17 58 (omega arith) refl refl;
+    second = digits-told 18 2 (omega arith) refl;
+    point = byte-told 20 46 (omega arith) refl refl;
+    microsecond = digits-told 21 6 (omega arith) refl;
+  }
+
 module _ (t : List ℕ) where
-  digits-told : (at n : ℕ) → T (areDigits t at n) → AllDigits t at n
-  unfolding areDigits
-  digits-told at n h = all-digits t at n (not (some (fails (fits digit) t) at n)) refl (is-true (not (some (fails (fits digit) t) at n)) h)
-
-  byte-told : (at x : ℕ) → T (isByte t at x) → byteAt t at ≡ x
-  unfolding isByte
-  byte-told at x h = eqb→eq (byteAt t at) x h
-
-  pub form : T (formed t) → Form t
-  unfolding formed dateFormed clockFormed
-  form h =
-      let r = simp and-T at h in
-      record {
-        day = digits-told 0 2 (r .0 .0 .0 .0 .0);
-        dash = byte-told 2 45 (r .0 .0 .0 .0 .1);
-        second-dash = byte-told 6 45 (r .0 .0 .0 .1);
-        year = digits-told 7 4 (r .0 .0 .1);
-        blank = byte-told 11 32 (r .0 .1);
-        hour = digits-told 12 2 (r .1 .0 .0 .0 .0 .0 .0);
-        colon = byte-told 14 58 (r .1 .0 .0 .0 .0 .0 .1);
-        minute = digits-told 15 2 (r .1 .0 .0 .0 .0 .1);
-        second-colon = byte-told 17 58 (r .1 .0 .0 .0 .1);
-        second = digits-told 18 2 (r .1 .0 .0 .1);
-        point = byte-told 20 46 (r .1 .0 .1);
-        microsecond = digits-told 21 6 (r .1 .1);
-      }
-
   module _ (long : length t ≡ 27) where
     -- a part, and the byte behind it
     byte-behind : (at n x : ℕ) → at + suc n ≤ 27 → byteAt t (at + n) ≡ x → part t at n ++ x ∷ [] ≡ part t at (suc n)

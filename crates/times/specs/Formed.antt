@@ -1,28 +1,24 @@
--- The form of a text as the code tests it: digits where they have to stand, and the bytes between them.
+-- A text as the code tests and writes it: the lowest and the highest byte at each place, and digits in pairs.
 -- Assumes nothing.
-use Prim.Native.Nat.{ℕ}
-use mathlib.Core.Bool.{Bool, _&&_, not}
+use Prim.Native.Nat.{ℕ, _+_, _*_, _/_, _%_}
+use mathlib.Core.Bool.{Bool, not}
 use mathlib.Core.List.{List}
-use lib.Dec.{eqb}
-use Rattle.layout.specs.Bytes.{byteAt}
+use Rattle.layout.specs.Bytes.{bytes, byteAt, within}
 use Rattle.layout.specs.Search.{some}
-use Rattle.layout.specs.Text.{digit, fits}
-use Rattle.text.specs.Runs.{fails}
 
--- the n bytes from a place on are digits
-unfoldable pub areDigits : List ℕ → ℕ → ℕ → Bool
-areDigits t at n = not (some (fails (fits digit) t) at n)
+unfoldable pub lowest : List ℕ
+lowest = bytes "00-AAA-0000 00:00:00.000000"
 
-unfoldable pub isByte : List ℕ → ℕ → ℕ → Bool
-isByte t at x = eqb (byteAt t at) x
+unfoldable pub highest : List ℕ
+highest = bytes "99-ZZZ-9999 99:99:99.999999"
 
--- DD-MMM-YYYY and a blank, but for the month's name
-unfoldable pub dateFormed : List ℕ → Bool
-dateFormed t = (((areDigits t 0 2 && isByte t 2 45) && isByte t 6 45) && areDigits t 7 4) && isByte t 11 32
-
--- hh:mm:ss.uuuuuu
-unfoldable pub clockFormed : List ℕ → Bool
-clockFormed t = (((((areDigits t 12 2 && isByte t 14 58) && areDigits t 15 2) && isByte t 17 58) && areDigits t 18 2) && isByte t 20 46) && areDigits t 21 6
+-- the byte at a place is below the lowest or above the highest
+unfoldable pub outside : List ℕ → ℕ → Bool
+outside t i = not (within (byteAt lowest i) (byteAt highest i) (byteAt t i))
 
 unfoldable pub formed : List ℕ → Bool
-formed t = dateFormed t && clockFormed t
+formed t = not (some (outside t) 0 27)
+
+-- two digits, the first in the lower byte
+unfoldable pub pairOf : ℕ → ℕ
+pairOf n = 12336 + n / 10 + 256 * (n % 10)

@@ -2,13 +2,13 @@
 use crate::Moment;
 use calendar::Date;
 ghost use mathlib.Core.Path.{_≡_};
-ghost use Prim.Native.Nat.{ℕ, _+_, _%_, _≤_};
+ghost use Prim.Native.Nat.{ℕ, _/_, _%_, _≤_, _<_};
 ghost use lib.Dec.{T};
 ghost use lib.ListN.{length};
 ghost use Rattle.layout.specs.Bytes.{part, byteAt};
-ghost use Rattle.times.specs.Times.{monthName, textOf, monthIn, dateIn, momentIn};
+ghost use Rattle.times.specs.Times.{validMoment, monthName, textOf, monthIn, dateIn, momentIn};
 ghost use Rattle.times.specs.Letters.{letterIn};
-ghost use Rattle.times.specs.Formed.{dateFormed, clockFormed, formed};
+ghost use Rattle.times.specs.Formed.{formed, pairOf};
 
 // The first, second and third letters of the months' names, from January on five bits each, A being 1. A table that is asked at a place not known before is
 // copied each time; a number is not.
@@ -21,6 +21,11 @@ const THIRD_LETTERS: u64 = 0x1da_903b_1d99_484e;
 // The months by a number from 0 to 15 that the second and third letters give and no two months share, four bits each; January, where no month has it.
 const MONTHS_BY_LETTERS: u64 = 0x859c_a162_4b11_3711;
 
+// The lowest and the highest byte that can stand at each place. Of the month's name they only say that it has capitals.
+const LOWEST: [u8; 27] = *b"00-AAA-0000 00:00:00.000000";
+
+const HIGHEST: [u8; 27] = *b"99-ZZZ-9999 99:99:99.999999";
+
 // A letter of a month's name.
 fn letter(letters: u64, month: u32) -> u8
     requires { ⌜ (1 ≤ month) × (month ≤ 12) ⌝ }
@@ -29,80 +34,83 @@ fn letter(letters: u64, month: u32) -> u8
     (64 + (letters >> (5 * (month - 1))) % 32) as u8
 }
 
-// The last digit of a number.
-fn digit(number: u32) -> u8
-    ensures { λ r. ⌜ r ≡ 48 + number % 10 ⌝ }
+// Two digits, the first in the lower byte.
+fn two_digits(number: u32) -> u32
+    requires { ⌜ number < 100 ⌝ }
+    ensures { λ r. ⌜ r ≡ pairOf number ⌝ }
 {
-    (48 + number % 10) as u8
+    0x3030 + number / 10 + 256 * (number % 10)
+}
+
+fn first(pair: u32) -> u8
+    ensures { λ r. ⌜ r ≡ pair % 256 ⌝ }
+{
+    (pair % 256) as u8
+}
+
+fn second(pair: u32) -> u8
+    ensures { λ r. ⌜ r ≡ pair / 256 % 256 ⌝ }
+{
+    (pair / 256 % 256) as u8
 }
 
 pub fn text_of(moment: Moment) -> [u8; 27]
-    requires { ⌜ (1 ≤ moment .date .month) × (moment .date .month ≤ 12) ⌝ }
+    requires { ⌜ T (validMoment moment) ⌝ }
     ensures { λ r. ⌜ r ≡ textOf moment ⌝ }
 {
     let date = moment.date;
+    let day = two_digits(date.day);
+    let century = two_digits(date.year / 100);
+    let year = two_digits(date.year % 100);
+    let hour = two_digits(moment.hour);
+    let minute = two_digits(moment.minute);
+    let seconds = two_digits(moment.second);
+    let high = two_digits(moment.microsecond / 10_000);
+    let middle = two_digits(moment.microsecond / 100 % 100);
+    let low = two_digits(moment.microsecond % 100);
     [
-        digit(date.day / 10),
-        digit(date.day),
+        first(day),
+        second(day),
         b'-',
         letter(FIRST_LETTERS, date.month),
         letter(SECOND_LETTERS, date.month),
         letter(THIRD_LETTERS, date.month),
         b'-',
-        digit(date.year / 1000),
-        digit(date.year / 100),
-        digit(date.year / 10),
-        digit(date.year),
+        first(century),
+        second(century),
+        first(year),
+        second(year),
         b' ',
-        digit(moment.hour / 10),
-        digit(moment.hour),
+        first(hour),
+        second(hour),
         b':',
-        digit(moment.minute / 10),
-        digit(moment.minute),
+        first(minute),
+        second(minute),
         b':',
-        digit(moment.second / 10),
-        digit(moment.second),
+        first(seconds),
+        second(seconds),
         b'.',
-        digit(moment.microsecond / 100_000),
-        digit(moment.microsecond / 10_000),
-        digit(moment.microsecond / 1000),
-        digit(moment.microsecond / 100),
-        digit(moment.microsecond / 10),
-        digit(moment.microsecond),
+        first(high),
+        second(high),
+        first(middle),
+        second(middle),
+        first(low),
+        second(low),
     ]
 }
 
-// A date's digits, and the bytes between them and behind. The month's name is looked at by itself.
-fn is_date_formed(text: &[u8]) -> bool
-    requires { ⌜ length (now text) ≡ 27 ⌝ }
-    ensures { λ r. ⌜ r ≡ dateFormed (now (text .entry)) ⌝ }
-{
-    text::digits_in(text, 0, 2)
-        & (text[2] == b'-')
-        & (text[6] == b'-')
-        & text::digits_in(text, 7, 4)
-        & (text[11] == b' ')
-}
-
-fn is_clock_formed(text: &[u8]) -> bool
-    requires { ⌜ length (now text) ≡ 27 ⌝ }
-    ensures { λ r. ⌜ r ≡ clockFormed (now (text .entry)) ⌝ }
-{
-    text::digits_in(text, 12, 2)
-        & (text[14] == b':')
-        & text::digits_in(text, 15, 2)
-        & (text[17] == b':')
-        & text::digits_in(text, 18, 2)
-        & (text[20] == b'.')
-        & text::digits_in(text, 21, 6)
-}
-
-// Digits stand where they have to, and the bytes between them.
+// No byte is below the lowest or above the highest that can stand at its place.
 pub fn is_formed(text: &[u8]) -> bool
     requires { ⌜ length (now text) ≡ 27 ⌝ }
     ensures { λ r. ⌜ r ≡ formed (now (text .entry)) ⌝ }
 {
-    is_date_formed(text) & is_clock_formed(text)
+    let mut all = true;
+    let mut i = 0;
+    while i < 27 {
+        all = all & ((LOWEST[i] <= text[i]) & (text[i] <= HIGHEST[i]));
+        i += 1;
+    }
+    all
 }
 
 // The only month that can have these second and third letters.

@@ -1,32 +1,29 @@
 -- `calendar::days_of_months` meets its contract.
 -- Assumes nothing.
-use native.Mathlib.Omega.{arith}
 use borrow.Author.Needs.{needs}
-use Rattle.calendar.proofs.Days.{before-march, leap-march, from-march}
+use Rattle.calendar.proofs.Days.{months-are, months-fit}
 use Rattle.calendar.proofs.days_of_months.Statement.{statement}
 use Rattle.calendar.proofs.days_of_months.Tie as tie
 
-mul-days : tie.Need-mul-days
-mul-days c = search needs
+missing-days-requires : tie.Need-missing-days-requires
+missing-days-requires c κs = search needs
 
-add-days : tie.Need-add-days
-add-days c = search needs
+mul-result : tie.Need-mul-result
+mul-result c = search needs
 
-returns : tie.Need-returns
-returns c = before-march (c .before .args .long) (c .before .args .count) (c .before .pre) (omega arith)
+add-result : tie.Need-add-result
+add-result c = search needs
+
+from-on-requires : tie.Need-from-on-requires
+from-on-requires c κs = search needs
 
 sub-result : tie.Need-sub-result
-sub-result c = search needs
+sub-result c = months-fit (c .before .before .args .long) (c .before .before .args .count) (c .before .before .pre) (c .before .missing-days .ensures .0) (c .from-on .ensures)
 
-returns-2 : tie.Need-returns-2
-returns-2 c = leap-march (c .before .before .args .long) (c .before .before .args .count) (c .before .before .pre) (omega arith) (c .if2 .taken)
-
-sub-result-2 : tie.Need-sub-result-2
-sub-result-2 c = search needs
-
-returns-3 : tie.Need-returns-3
-returns-3 c = from-march (c .before .before .args .long) (c .before .before .args .count) (c .before .before .pre) (omega arith) (c .if2 .left)
+returns : tie.Need-returns
+returns c = months-are (c .before .before .args .long) (c .before .before .args .count) (c .before .before .pre) (c .before .missing-days .ensures .0) (c .from-on .ensures)
 
 pub days-of-months-spec : {M : Type 1} → statement M
 days-of-months-spec =
-    tie.close (tie.spec mul-days add-days returns sub-result returns-2 sub-result-2 returns-3)
+    tie.close
+    (tie.spec missing-days-requires mul-result add-result from-on-requires sub-result returns)

@@ -4,7 +4,6 @@ use mathlib.Core.Path.{sym, ap, _∙_}
 use borrow.Author.Tests.{not-true, not-false}
 use borrow.Author.Needs.{needs}
 use Rattle.times.specs.Times.{validTime}
-use Rattle.times.proofs.Moments.{valid}
 use Rattle.times.proofs.Said.{told}
 use Rattle.times.proofs.Answers.{time-kept, refused-text, given-text}
 use Rattle.times.proofs.text_of_time.Statement.{statement}
@@ -25,7 +24,7 @@ moment-of-requires : tie.Need-moment-of-requires
 moment-of-requires c κs = told _ (sym (c .before .is-time .ensures) ∙ not-false _ (c .if1 .left))
 
 text-of-requires : tie.Need-text-of-requires
-text-of-requires c κs = let v = valid (c .moment-of .result) (c .moment-of .ensures .0) in (v .date .january, v .date .december)
+text-of-requires c κs = c .moment-of .ensures .0
 
 returns-2 : tie.Need-returns-2
 returns-2 c =

@@ -1,130 +1,170 @@
 -- `times::texts::text_of` meets its contract.
 -- Assumes nothing.
+use Prim.Native.Nat.{_/_, _%_}
 use mathlib.Core.List.{[], _∷_}
 use mathlib.Core.Path.{_∙_}
+use native.Mathlib.Omega.{arith}
 use borrow.Author.Needs.{needs}
-use Rattle.times.proofs.Written.{as-written}
+use Rattle.times.proofs.Moments.{valid, valid-day}
+use Rattle.times.proofs.Written.{first-digit, second-digit, as-written}
 use Rattle.times.proofs.texts.text_of.Statement.{statement}
 use Rattle.times.proofs.texts.text_of.Tie as tie
 
-digit-requires : tie.Need-digit-requires
-digit-requires c κs = search needs
+two-digits-requires : tie.Need-two-digits-requires
+two-digits-requires c κs = let v = valid (c .before .args .moment) (c .before .pre) in valid-day (c .before .args .moment) v
 
-digit-requires-2 : tie.Need-digit-requires-2
-digit-requires-2 c κs = search needs
+two-digits-requires-2 : tie.Need-two-digits-requires-2
+two-digits-requires-2 c κs = let v = valid (c .before .before .before .args .moment) (c .before .before .before .pre) in omega (arith, v .date .last)
+
+two-digits-requires-3 : tie.Need-two-digits-requires-3
+two-digits-requires-3 c κs = search needs
+
+two-digits-requires-4 : tie.Need-two-digits-requires-4
+two-digits-requires-4 c κs = let v = valid (c .before .before .before .before .before .before .args .moment) (c .before .before .before .before .before .before .pre) in omega (arith, v .hour)
+
+two-digits-requires-5 : tie.Need-two-digits-requires-5
+two-digits-requires-5 c κs = let v = valid (c .before .before .before .before .before .before .before .args .moment) (c .before .before .before .before .before .before .before .pre) in omega (arith, v .minute)
+
+two-digits-requires-6 : tie.Need-two-digits-requires-6
+two-digits-requires-6 c κs = let v = valid (c .before .before .before .before .before .before .before .before .args .moment) (c .before .before .before .before .before .before .before .before .pre) in omega (arith, v .second)
+
+two-digits-requires-7 : tie.Need-two-digits-requires-7
+two-digits-requires-7 c κs = let v = valid (c .before .before .before .before .before .before .before .before .before .before .args .moment) (c .before .before .before .before .before .before .before .before .before .before .pre) in omega (arith, v .microsecond)
+
+two-digits-requires-8 : tie.Need-two-digits-requires-8
+two-digits-requires-8 c κs = search needs
+
+two-digits-requires-9 : tie.Need-two-digits-requires-9
+two-digits-requires-9 c κs = search needs
+
+first-requires : tie.Need-first-requires
+first-requires c κs = search needs
+
+second-requires : tie.Need-second-requires
+second-requires c κs = search needs
 
 letter-requires : tie.Need-letter-requires
-letter-requires c κs = search needs
+letter-requires c κs = let v = valid (c .before .before .before .before .before .before .before .before .before .before .before .before .before .before .before .before .before .args .moment) (c .before .before .before .before .before .before .before .before .before .before .before .before .before .before .before .before .before .pre) in (v .date .january, v .date .december)
 
 letter-requires-2 : tie.Need-letter-requires-2
-letter-requires-2 c κs = search needs
+letter-requires-2 c κs = let v = valid (c .before .before .before .before .before .before .before .before .before .before .before .before .before .before .before .before .before .before .args .moment) (c .before .before .before .before .before .before .before .before .before .before .before .before .before .before .before .before .before .before .pre) in (v .date .january, v .date .december)
 
 letter-requires-3 : tie.Need-letter-requires-3
-letter-requires-3 c κs = search needs
+letter-requires-3 c κs = let v = valid (c .before .before .before .before .before .before .before .before .before .before .before .before .before .before .before .before .before .before .before .args .moment) (c .before .before .before .before .before .before .before .before .before .before .before .before .before .before .before .before .before .before .before .pre) in (v .date .january, v .date .december)
 
-digit-requires-3 : tie.Need-digit-requires-3
-digit-requires-3 c κs = search needs
+first-requires-2 : tie.Need-first-requires-2
+first-requires-2 c κs = search needs
 
-digit-requires-4 : tie.Need-digit-requires-4
-digit-requires-4 c κs = search needs
+second-requires-2 : tie.Need-second-requires-2
+second-requires-2 c κs = search needs
 
-digit-requires-5 : tie.Need-digit-requires-5
-digit-requires-5 c κs = search needs
+first-requires-3 : tie.Need-first-requires-3
+first-requires-3 c κs = search needs
 
-digit-requires-6 : tie.Need-digit-requires-6
-digit-requires-6 c κs = search needs
+second-requires-3 : tie.Need-second-requires-3
+second-requires-3 c κs = search needs
 
-digit-requires-7 : tie.Need-digit-requires-7
-digit-requires-7 c κs = search needs
+first-requires-4 : tie.Need-first-requires-4
+first-requires-4 c κs = search needs
 
-digit-requires-8 : tie.Need-digit-requires-8
-digit-requires-8 c κs = search needs
+second-requires-4 : tie.Need-second-requires-4
+second-requires-4 c κs = search needs
 
-digit-requires-9 : tie.Need-digit-requires-9
-digit-requires-9 c κs = search needs
+first-requires-5 : tie.Need-first-requires-5
+first-requires-5 c κs = search needs
 
-digit-requires-10 : tie.Need-digit-requires-10
-digit-requires-10 c κs = search needs
+second-requires-5 : tie.Need-second-requires-5
+second-requires-5 c κs = search needs
 
-digit-requires-11 : tie.Need-digit-requires-11
-digit-requires-11 c κs = search needs
+first-requires-6 : tie.Need-first-requires-6
+first-requires-6 c κs = search needs
 
-digit-requires-12 : tie.Need-digit-requires-12
-digit-requires-12 c κs = search needs
+second-requires-6 : tie.Need-second-requires-6
+second-requires-6 c κs = search needs
 
-digit-requires-13 : tie.Need-digit-requires-13
-digit-requires-13 c κs = search needs
+first-requires-7 : tie.Need-first-requires-7
+first-requires-7 c κs = search needs
 
-digit-requires-14 : tie.Need-digit-requires-14
-digit-requires-14 c κs = search needs
+second-requires-7 : tie.Need-second-requires-7
+second-requires-7 c κs = search needs
 
-digit-requires-15 : tie.Need-digit-requires-15
-digit-requires-15 c κs = search needs
+first-requires-8 : tie.Need-first-requires-8
+first-requires-8 c κs = search needs
 
-digit-requires-16 : tie.Need-digit-requires-16
-digit-requires-16 c κs = search needs
+second-requires-8 : tie.Need-second-requires-8
+second-requires-8 c κs = search needs
 
-digit-requires-17 : tie.Need-digit-requires-17
-digit-requires-17 c κs = search needs
+first-requires-9 : tie.Need-first-requires-9
+first-requires-9 c κs = search needs
 
-digit-requires-18 : tie.Need-digit-requires-18
-digit-requires-18 c κs = search needs
+second-requires-9 : tie.Need-second-requires-9
+second-requires-9 c κs = search needs
 
 returns : tie.Need-returns
 returns c =
-    let start = c .before .before .before .before .before .before .before .before .before .before .before .before .before .before .before .before .before .before .before .before .before .before .before .before .before .before .before .before .before .before .before .before .before .before in
-    (λ j. c .before .before .before .before .before .before .before .before .before .before .before .before .before .before .before .before .before .before .before .before .before .before .before .before .before .before .before .before .before .before .before .digit .ensures j
-    ∷ c .before .before .before .before .before .before .before .before .before .before .before .before .before .before .before .before .before .before .before .before .before .before .before .before .before .before .before .before .before .before .digit2 .ensures j
+    let m = c .before .before .before .before .before .before .before .before .before .before .before .before .before .before .before .before .before .before .before .before .before .before .before .before .before .before .before .before .before .before .before .before .before .before .before .before .args .moment in
+    let v = valid m (c .before .before .before .before .before .before .before .before .before .before .before .before .before .before .before .before .before .before .before .before .before .before .before .before .before .before .before .before .before .before .before .before .before .before .before .before .pre) in
+    (λ j. first-digit (m .date .day) (valid-day m v) (c .before .before .before .before .before .before .before .before .before .before .before .before .before .before .before .before .before .before .before .before .first .ensures) (c .before .before .before .before .before .before .before .before .before .before .before .before .before .before .before .before .before .before .before .before .before .before .before .before .before .before .before .before .before .before .before .before .before .before .two-digits .ensures) j
+    ∷ second-digit (m .date .day) (valid-day m v) (c .before .before .before .before .before .before .before .before .before .before .before .before .before .before .before .before .before .before .before .second .ensures) (c .before .before .before .before .before .before .before .before .before .before .before .before .before .before .before .before .before .before .before .before .before .before .before .before .before .before .before .before .before .before .before .before .before .before .two-digits .ensures) j
     ∷ 45
-    ∷ c .before .before .before .before .before .before .before .before .before .before .before .before .before .before .before .before .before .before .before .before .before .before .before .before .before .before .before .before .before .letter .ensures j
-    ∷ c .before .before .before .before .before .before .before .before .before .before .before .before .before .before .before .before .before .before .before .before .before .before .before .before .before .before .before .before .letter2 .ensures j
-    ∷ c .before .before .before .before .before .before .before .before .before .before .before .before .before .before .before .before .before .before .before .before .before .before .before .before .before .before .before .letter3 .ensures j
+    ∷ c .before .before .before .before .before .before .before .before .before .before .before .before .before .before .before .before .before .before .letter .ensures j
+    ∷ c .before .before .before .before .before .before .before .before .before .before .before .before .before .before .before .before .before .letter2 .ensures j
+    ∷ c .before .before .before .before .before .before .before .before .before .before .before .before .before .before .before .before .letter3 .ensures j
     ∷ 45
-    ∷ c .before .before .before .before .before .before .before .before .before .before .before .before .before .before .before .before .before .before .before .before .before .before .before .before .before .digit3 .ensures j
-    ∷ c .before .before .before .before .before .before .before .before .before .before .before .before .before .before .before .before .before .before .before .before .before .before .before .digit4 .ensures j
-    ∷ c .before .before .before .before .before .before .before .before .before .before .before .before .before .before .before .before .before .before .before .before .before .digit5 .ensures j
-    ∷ c .before .before .before .before .before .before .before .before .before .before .before .before .before .before .before .before .before .before .before .before .digit6 .ensures j
+    ∷ first-digit (m .date .year / 100) (omega (arith, v .date .last)) (c .before .before .before .before .before .before .before .before .before .before .before .before .before .before .before .first2 .ensures) (c .before .before .before .before .before .before .before .before .before .before .before .before .before .before .before .before .before .before .before .before .before .before .before .before .before .before .before .before .before .before .before .before .two-digits2 .ensures) j
+    ∷ second-digit (m .date .year / 100) (omega (arith, v .date .last)) (c .before .before .before .before .before .before .before .before .before .before .before .before .before .before .second2 .ensures) (c .before .before .before .before .before .before .before .before .before .before .before .before .before .before .before .before .before .before .before .before .before .before .before .before .before .before .before .before .before .before .before .before .two-digits2 .ensures) j
+    ∷ first-digit (m .date .year % 100) (omega arith) (c .before .before .before .before .before .before .before .before .before .before .before .before .before .first3 .ensures) (c .before .before .before .before .before .before .before .before .before .before .before .before .before .before .before .before .before .before .before .before .before .before .before .before .before .before .before .before .before .before .two-digits3 .ensures) j
+    ∷ second-digit (m .date .year % 100) (omega arith) (c .before .before .before .before .before .before .before .before .before .before .before .before .second3 .ensures) (c .before .before .before .before .before .before .before .before .before .before .before .before .before .before .before .before .before .before .before .before .before .before .before .before .before .before .before .before .before .before .two-digits3 .ensures) j
     ∷ 32
-    ∷ c .before .before .before .before .before .before .before .before .before .before .before .before .before .before .before .before .before .before .digit7 .ensures j
-    ∷ c .before .before .before .before .before .before .before .before .before .before .before .before .before .before .before .before .before .digit8 .ensures j
+    ∷ first-digit (m .hour) (omega (arith, v .hour)) (c .before .before .before .before .before .before .before .before .before .before .before .first4 .ensures) (c .before .before .before .before .before .before .before .before .before .before .before .before .before .before .before .before .before .before .before .before .before .before .before .before .before .before .before .before .before .two-digits4 .ensures) j
+    ∷ second-digit (m .hour) (omega (arith, v .hour)) (c .before .before .before .before .before .before .before .before .before .before .second4 .ensures) (c .before .before .before .before .before .before .before .before .before .before .before .before .before .before .before .before .before .before .before .before .before .before .before .before .before .before .before .before .before .two-digits4 .ensures) j
     ∷ 58
-    ∷ c .before .before .before .before .before .before .before .before .before .before .before .before .before .before .before .digit9 .ensures j
-    ∷ c .before .before .before .before .before .before .before .before .before .before .before .before .before .before .digit10 .ensures j
+    ∷ first-digit (m .minute) (omega (arith, v .minute)) (c .before .before .before .before .before .before .before .before .before .first5 .ensures) (c .before .before .before .before .before .before .before .before .before .before .before .before .before .before .before .before .before .before .before .before .before .before .before .before .before .before .before .before .two-digits5 .ensures) j
+    ∷ second-digit (m .minute) (omega (arith, v .minute)) (c .before .before .before .before .before .before .before .before .second5 .ensures) (c .before .before .before .before .before .before .before .before .before .before .before .before .before .before .before .before .before .before .before .before .before .before .before .before .before .before .before .before .two-digits5 .ensures) j
     ∷ 58
-    ∷ c .before .before .before .before .before .before .before .before .before .before .before .before .digit11 .ensures j
-    ∷ c .before .before .before .before .before .before .before .before .before .before .before .digit12 .ensures j
+    ∷ first-digit (m .second) (omega (arith, v .second)) (c .before .before .before .before .before .before .before .first6 .ensures) (c .before .before .before .before .before .before .before .before .before .before .before .before .before .before .before .before .before .before .before .before .before .before .before .before .before .before .before .two-digits6 .ensures) j
+    ∷ second-digit (m .second) (omega (arith, v .second)) (c .before .before .before .before .before .before .second6 .ensures) (c .before .before .before .before .before .before .before .before .before .before .before .before .before .before .before .before .before .before .before .before .before .before .before .before .before .before .before .two-digits6 .ensures) j
     ∷ 46
-    ∷ c .before .before .before .before .before .before .before .before .before .digit13 .ensures j
-    ∷ c .before .before .before .before .before .before .before .digit14 .ensures j
-    ∷ c .before .before .before .before .before .digit15 .ensures j
-    ∷ c .before .before .before .digit16 .ensures j
-    ∷ c .before .digit17 .ensures j
-    ∷ c .digit18 .ensures j ∷ [])
-    ∙ as-written (start .args .moment) (start .pre .0) (start .pre .1)
+    ∷ first-digit (m .microsecond / 10000) (omega (arith, v .microsecond)) (c .before .before .before .before .before .first7 .ensures) (c .before .before .before .before .before .before .before .before .before .before .before .before .before .before .before .before .before .before .before .before .before .before .before .before .before .two-digits7 .ensures) j
+    ∷ second-digit (m .microsecond / 10000) (omega (arith, v .microsecond)) (c .before .before .before .before .second7 .ensures) (c .before .before .before .before .before .before .before .before .before .before .before .before .before .before .before .before .before .before .before .before .before .before .before .before .before .two-digits7 .ensures) j
+    ∷ first-digit (m .microsecond / 100 % 100) (omega arith) (c .before .before .before .first8 .ensures) (c .before .before .before .before .before .before .before .before .before .before .before .before .before .before .before .before .before .before .before .before .before .before .before .two-digits8 .ensures) j
+    ∷ second-digit (m .microsecond / 100 % 100) (omega arith) (c .before .before .second8 .ensures) (c .before .before .before .before .before .before .before .before .before .before .before .before .before .before .before .before .before .before .before .before .before .before .before .two-digits8 .ensures) j
+    ∷ first-digit (m .microsecond % 100) (omega arith) (c .before .first9 .ensures) (c .before .before .before .before .before .before .before .before .before .before .before .before .before .before .before .before .before .before .before .before .before .two-digits9 .ensures) j
+    ∷ second-digit (m .microsecond % 100) (omega arith) (c .second9 .ensures) (c .before .before .before .before .before .before .before .before .before .before .before .before .before .before .before .before .before .before .before .before .before .two-digits9 .ensures) j ∷ [])
+    ∙ as-written m (v .date .january) (v .date .december)
 
 pub text-of-spec : {M : Type 1} → statement M
 text-of-spec =
     tie.close
     (tie.spec
-    digit-requires
-    digit-requires-2
+    two-digits-requires
+    two-digits-requires-2
+    two-digits-requires-3
+    two-digits-requires-4
+    two-digits-requires-5
+    two-digits-requires-6
+    two-digits-requires-7
+    two-digits-requires-8
+    two-digits-requires-9
+    first-requires
+    second-requires
     letter-requires
     letter-requires-2
     letter-requires-3
-    digit-requires-3
-    digit-requires-4
-    digit-requires-5
-    digit-requires-6
-    digit-requires-7
-    digit-requires-8
-    digit-requires-9
-    digit-requires-10
-    digit-requires-11
-    digit-requires-12
-    digit-requires-13
-    digit-requires-14
-    digit-requires-15
-    digit-requires-16
-    digit-requires-17
-    digit-requires-18
+    first-requires-2
+    second-requires-2
+    first-requires-3
+    second-requires-3
+    first-requires-4
+    second-requires-4
+    first-requires-5
+    second-requires-5
+    first-requires-6
+    second-requires-6
+    first-requires-7
+    second-requires-7
+    first-requires-8
+    second-requires-8
+    first-requires-9
+    second-requires-9
     returns)
