@@ -14,7 +14,8 @@ use Rattle.layout.proofs.Sound.{getD-map-upto}
 use Rattle.calendar.specs.declared.Date.{Date}
 use Rattle.calendar.specs.Calendar.{leap, months, daysOfMonth, daysOfYear, years, validDate, daysBefore}
 use Rattle.calendar.proofs.Units.{one-more, over-before}
-use Rattle.calendar.proofs.Days.{every-fourth, years-are, year-long, month-long, overOf, found}
+use Rattle.calendar.proofs.Days.{every-fourth, years-are, year-long, month-long, even, overOf, Over, found}
+use Rattle.calendar.specs.Even.{evenDays}
 
 -- what is so of a date of the range
 pub record Dated (d : Date) : Type 0 where
@@ -174,13 +175,24 @@ rest-short n long u e = rw (year-long long) (go long (every-fourth (1980 + 4 * n
         let e : 4 * (4 * n / 1461 / 4) + 4 * n / 1461 % 4 ≡ 4 * n / 1461 = omega arith in
         rw e at (common-short n (4 * n / 1461 / 4) (4 * n / 1461 % 4) (omega arith) k (rw e (omega arith)))
 
+-- the date with n days before it
+module _ (n : ℕ) (u : n < 43830) (long : Bool) (e : long ≡ leap (1980 + 4 * n / 1461)) where
+  abbrev rest : ℕ
+  rest = n - (1461 * (4 * n / 1461) + 3) / 4
+
+  pub over-found : Over long rest (overOf long rest)
+  over-found = found long rest (rest-short n long u e)
+
+  pub date-after : (d : ℕ) → d ≡ evenDays long rest
+      → T (validDate (record { year = 1980 + 4 * n / 1461; month = (67 * d + 27) / 2048 + 1; day = d - even ((67 * d + 27) / 2048) + 1 }))
+      × (daysBefore (record { year = 1980 + 4 * n / 1461; month = (67 * d + 27) / 2048 + 1; day = d - even ((67 * d + 27) / 2048) + 1 }) ≡ n)
+  date-after d f =
+      let o = over-found in
+      let b = sum (take (overOf long rest) (months long)) in
+      let found = date-is (4 * n / 1461) (overOf long rest) b rest (omega arith) (rw e) (o .begun) (rw (sym e) (o .short)) (o .last) in
+      rw (f, o .days) (found .0, found .1 ∙ omega arith)
+
 -- each count of days of the range has a date
 pub date-with : (n : ℕ) → n < 43830 → (d : Date) × (T (validDate d) × (daysBefore d ≡ n))
-date-with n u =
-    let k = 4 * n / 1461 in
-    let r = n - (1461 * k + 3) / 4 in
-    let long = leap (1980 + k) in
-    let o = overOf long r in
-    let f = found long r (rest-short n long u refl) in
-    let d = date-is k o (sum (take o (months long))) r (omega arith) refl (f .0) (f .1 .0) (f .1 .1) in
-    (dateAt k o (sum (take o (months long))) r (omega arith) refl (f .0) (f .1 .0) (f .1 .1), (d .0, d .1 ∙ omega arith))
+date-with n u = let d = evenDays (leap (1980 + 4 * n / 1461)) (n - (1461 * (4 * n / 1461) + 3) / 4) in
+    (record { year = 1980 + 4 * n / 1461; month = (67 * d + 27) / 2048 + 1; day = d - even ((67 * d + 27) / 2048) + 1 }, date-after n u (leap (1980 + 4 * n / 1461)) refl d refl)

@@ -9,7 +9,7 @@ use lib.Dec.{T, leb, ltb, eqb, leb→le, ltb→lt, eqb→eq}
 use lib.ListN.{take, getD}
 use Rattle.layout.specs.Answer.{Answer, need, accepted}
 use Rattle.layout.specs.Search.{first, sum}
-use Rattle.layout.proofs.Laws.{and-T, need-accepts, first-accepts}
+use Rattle.layout.proofs.Laws.{and-T, leb-T, eqb-T, need-accepts, first-accepts}
 use Rattle.calendar.specs.Calendar.{leap, months, daysOfYear, years}
 use Rattle.calendar.specs.Even.{missing, fromOn, evenDays}
 
@@ -44,8 +44,8 @@ years-are k u = eqb→eq (sum (take k years)) ((1461 * k + 3) / 4) (each-passes 
 -- ---- months
 
 -- the first k months, had February 30 days
-abbrev even : ℕ → ℕ
-even k = (367 * k + 5) / 12
+abbrev pub even : ℕ → ℕ
+even k = (489 * k + 8) / 16
 
 abbrev counts : Bool → ℕ → Bool
 counts long k = eqb (even k - fromOn k 2 (missing long)) (sum (take k (months long))) && (leb (sum (take k (months long))) 366 && leb (fromOn k 2 (missing long)) (even k))
@@ -92,28 +92,31 @@ module _ (long : Bool) (d : ℕ) where
 
 -- the months that are over
 abbrev pub overOf : Bool → ℕ → ℕ
-overOf long r = (12 * evenDays long r + 6) / 367
+overOf long r = (67 * evenDays long r + 27) / 2048
 
 abbrev inMonth : Bool → ℕ → Bool
-inMonth long r = leb (sum (take (overOf long r) (months long))) r && (ltb r (sum (take (suc (overOf long r)) (months long))) && leb (overOf long r) 11)
+inMonth long r =
+    let before = sum (take (overOf long r) (months long)) in
+    (leb before r && (ltb r (sum (take (suc (overOf long r)) (months long))) && leb (overOf long r) 11))
+    && (leb (even (overOf long r)) (evenDays long r) && eqb (evenDays long r - even (overOf long r)) (r - before))
 
 months-found : (long : Bool) → first (λ r. need (inMonth long r) 0 0 0) 0 (sum (months long)) ≡ accepted
 unfolding first sum months evenDays fromOn missing
 months-found true = refl
 months-found false = refl
 
--- so many are over, and the next one is not
-abbrev pub Over : Bool → ℕ → ℕ → Type 0
-Over long r over = (sum (take over (months long)) ≤ r) × ((r < sum (take (suc over) (months long))) × (over ≤ 11))
+-- so many months are over on day r, the next one is not, and the days of it before r are as many with a February of 30
+pub record Over (long : Bool) (r over : ℕ) : Type 0 where
+  pub begun : sum (take over (months long)) ≤ r
+  pub short : r < sum (take (suc over) (months long))
+  pub last : over ≤ 11
+  pub fits : even over ≤ evenDays long r
+  pub days : evenDays long r - even over ≡ r - sum (take over (months long))
 
-module _ (long : Bool) (r : ℕ) (u : r < sum (months long)) where
-  pub found : Over long r (overOf long r)
-  found =
-      let l = sum (take (overOf long r) (months long)) in
-      let n = sum (take (suc (overOf long r)) (months long)) in
-      let h = and-T (leb l r) (ltb r n && leb (overOf long r) 11) .0 (each-passes (inMonth long) 0 (sum (months long)) (months-found long) r (omega arith) (omega arith)) in
-      let k = and-T (ltb r n) (leb (overOf long r) 11) .0 (h .1) in
-      (leb→le l r (h .0), (ltb→lt r n (k .0), leb→le (overOf long r) 11 (k .1)))
+pub found : (long : Bool) (r : ℕ) → r < sum (months long) → Over long r (overOf long r)
+found long r u =
+    let h = simp (and-T, leb-T, eqb-T) at (each-passes (inMonth long) 0 (sum (months long)) (months-found long) r (omega arith) (omega arith)) in
+    record { begun = h .0 .0; short = h .0 .1 .0; last = h .0 .1 .1; fits = h .1 .0; days = h .1 .1 }
 
 pub year-long : (long : Bool) → sum (months long) ≡ cond long 366 365
 unfolding sum months

@@ -1,6 +1,6 @@
 // The Gregorian calendar from 1 January 1980 to 31 December 2099 (document 02, order 7): dates, and the days before them.
 ghost use mathlib.Core.Path.{_≡_};
-ghost use Prim.Native.Nat.{suc, _≤_, _<_};
+ghost use Prim.Native.Nat.{_≤_, _<_};
 ghost use lib.Dec.{T};
 ghost use lib.ListN.{take};
 ghost use Rattle.layout.specs.Search.{sum};
@@ -42,13 +42,13 @@ fn from_on(number: u32, least: u32, many: u32) -> u32
     many
 }
 
-// The days of so many first months of a year. Had February 30 days, twelve months would have 367, and so many months as many twelfths of it.
+// The days of so many first months of a year. Had February 30 days, months would have 30 9/16 on the average.
 fn days_of_months(long: bool, count: u32) -> u32
     requires { ⌜ count ≤ 12 ⌝ }
     ensures { λ r. ⌜ (r ≡ sum (take count (months long))) × (r ≤ 366) ⌝ }
 {
     let missing = missing_days(long);
-    (367 * count + 5) / 12 - from_on(count, 2, missing)
+    (489 * count + 8) / 16 - from_on(count, 2, missing)
 }
 
 // A date of the range.
@@ -86,21 +86,13 @@ pub fn days_before(date: Date) -> u32
 // The days of a year before one of its days, had February 30.
 fn days_of_even_months(long: bool, days: u32) -> u32
     requires { ⌜ days ≤ 366 ⌝ }
-    ensures { λ r. ⌜ r ≡ evenDays long days ⌝ }
+    ensures { λ r. ⌜ (r ≡ evenDays long days) × (r ≤ 368) ⌝ }
 {
     let missing = missing_days(long);
     days + from_on(days, 61 - missing, missing)
 }
 
-// How many months of a year are over on a day, by the days of the year before it.
-fn months_over(long: bool, days: u32) -> u32
-    requires { ⌜ days < sum (months long) ⌝ }
-    ensures { λ r. ⌜ (sum (take r (months long)) ≤ days) × ((days < sum (take (suc r) (months long))) × (r ≤ 11)) ⌝ }
-{
-    (12 * days_of_even_months(long, days) + 6) / 367
-}
-
-// The date that has so many days before it.
+// The date that has so many days before it. 67/2048 of the days are months.
 pub fn date_after(days: u32) -> Date
     requires { ⌜ days < 43830 ⌝ }
     ensures { λ r. ⌜ T (validDate r) × (daysBefore r ≡ days) ⌝ }
@@ -108,11 +100,11 @@ pub fn date_after(days: u32) -> Date
     let years = 4 * days / 1461;
     let rest = days - (1461 * years + 3) / 4;
     let long = is_leap(1980 + years);
-    let over = months_over(long, rest);
-    let before = days_of_months(long, over);
+    let even = days_of_even_months(long, rest);
+    let over = (67 * even + 27) / 2048;
     Date {
         year: 1980 + years,
         month: over + 1,
-        day: rest - before + 1,
+        day: even - (489 * over + 8) / 16 + 1,
     }
 }

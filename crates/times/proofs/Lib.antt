@@ -1,6 +1,7 @@
 mod Digits
 mod Months
 mod Written
+mod Blocks
 mod Numbers
 mod Reading
 mod Moments

@@ -48,13 +48,16 @@ time-valid m v = is-timed (timeOf m) (record {
 -- the moment found from a time
 module _ (t : Time) (r : Timed t) (d : Date) (date : T (validDate d)) (number : dayNumber d ≡ t .days) where
   abbrev found : Moment
-  found = record { date = d; hour = t .seconds / 3600; minute = t .seconds / 60 % 60; second = t .seconds % 60; microsecond = t .microseconds }
+  found =
+      let hour = t .seconds / 3600 in
+      let rest = t .seconds - 3600 * hour in
+      record { date = d; hour = hour; minute = rest / 60; second = rest - 60 * (rest / 60); microsecond = t .microseconds }
 
   pub found-valid : T (validMoment found)
   unfolding validMoment
   found-valid = simp (and-T, leb-T) (date, (omega (arith, r .seconds), (omega arith, (omega arith, r .microseconds))))
 
-  whole-day : (n : ℕ) → 3600 * (n / 3600) + 60 * (n / 60 % 60) + n % 60 ≡ n
+  whole-day : (n : ℕ) → 3600 * (n / 3600) + 60 * ((n - 3600 * (n / 3600)) / 60) + (n - 3600 * (n / 3600) - 60 * ((n - 3600 * (n / 3600)) / 60)) ≡ n
   whole-day n = omega arith
 
   pub found-time : timeOf found ≡ t

@@ -1,10 +1,13 @@
 -- A moment's text is of the form that the code tests and is read as that moment; a text of the form is the text of the moment that it is read as.
 -- Assumes nothing.
 use Prim.Native.Nat.{ℕ, zero, suc, _+_, _*_, _-_, _/_, _%_, _^_, _≤_, _<_}
-use mathlib.Core.Bool.{Bool, true, false, _&&_, not, false≢true}
+use mathlib.Core.Bool.{Bool, true, false, _&&_, _||_, not, false≢true}
 use mathlib.Core.List.{List, [], _∷_, _++_}
+use mathlib.Core.Logic.{_⊎_, inl, inr}
 use mathlib.Core.Path.{_≡_, refl, sym, ap, _∙_}
+use native.Mathlib.Nat.{zero-add}
 use native.Mathlib.Omega.{arith}
+use borrow.Author.Tests.{le-leb}
 use lib.Dec.{T, leb, eqb, leb→le, le→leb, eqb→eq}
 use lib.ListN.{length, take, drop, getD}
 use lib.Seq.{take-all}
@@ -12,18 +15,18 @@ use Rattle.layout.specs.Bytes.{bytes, part, byteAt, within}
 use Rattle.layout.specs.Answer.{need, accepted}
 use Rattle.layout.specs.Search.{first, some}
 use Rattle.layout.specs.Text.{digit, fits, digits}
-use Rattle.layout.proofs.Laws.{and-T, not-not, not-not-T}
+use Rattle.layout.proofs.Laws.{and-T, lt-or-le}
 use Rattle.layout.proofs.Tests.{is-true}
 use Rattle.text.specs.Numbers.{AllDigits}
 use Rattle.text.proofs.Runs.{tested}
+use Rattle.text.proofs.Parts.{byte-part}
 use Rattle.calendar.proofs.Days.{each-passes}
 use Rattle.calendar.specs.declared.Date.{Date}
 use Rattle.times.specs.declared.Moment.{Moment}
 use Rattle.times.specs.Times.{inDigits, monthName, dateText, clockText, textOf, monthIn, dateIn, momentIn}
-use Rattle.times.specs.Letters.{letterIn}
-use Rattle.times.specs.Formed.{lowest, highest, outside, formed, pairOf}
+use Rattle.times.specs.Formed.{lowest, highest, outside, misplaced, formed, pairOf}
 use Rattle.times.proofs.Digits.{number-back, least-digit, most-digit, part-last, digits-back, part-join}
-use Rattle.times.proofs.Months.{firsts, seconds, thirds, capitals, name-spelled, month-back, name-back}
+use Rattle.times.proofs.Months.{name-spelled, capitals, month-back, name-back}
 
 -- ---- digits in pairs
 
@@ -39,6 +42,18 @@ module _ (n : ℕ) where
 
   hundreds : n / 100 / 10 ≡ n / 10 / 10 / 10
   hundreds = omega arith
+
+  last-hundreds : n % 10000 / 100 / 10 % 10 ≡ n / 10 / 10 / 10 % 10
+  last-hundreds = omega arith
+
+  last-hundred : n % 10000 / 100 % 10 ≡ n / 10 / 10 % 10
+  last-hundred = omega arith
+
+  last-tens : n % 10000 % 100 / 10 % 10 ≡ n / 10 % 10
+  last-tens = omega arith
+
+  last-ones : n % 10000 % 100 % 10 ≡ n % 10
+  last-ones = omega arith
 
   ten-thousand : n / 10000 ≡ n / 10 / 10 / 10 / 10
   ten-thousand = omega arith
@@ -70,12 +85,16 @@ spelled a b c m =
     ++ 58 ∷ inDigits 2 (m .second) ++ 46 ∷ inDigits 6 (m .microsecond)
 
 abbrev spelledOut : Moment → List ℕ
-spelledOut m = spelled (letterIn firsts (m .date .month)) (letterIn seconds (m .date .month)) (letterIn thirds (m .date .month)) m
+spelledOut m = spelled (byteAt (monthName (m .date .month)) 0) (byteAt (monthName (m .date .month)) 1) (byteAt (monthName (m .date .month)) 2) m
 
 module _ (m : Moment) (january : 1 ≤ m .date .month) (december : m .date .month ≤ 12) where
   pub is-spelled : textOf m ≡ spelledOut m
   unfolding textOf dateText clockText inDigits
-  is-spelled = rw (name-spelled (m .date .month) january december)
+  is-spelled = go (monthName (m .date .month)) (name-spelled (m .date .month) january december)
+    where
+      go : (name : List ℕ) → name ≡ byteAt name 0 ∷ byteAt name 1 ∷ byteAt name 2 ∷ []
+          → inDigits 2 (m .date .day) ++ bytes "-" ++ name ++ bytes "-" ++ inDigits 4 (m .date .year) ++ bytes " " ++ clockText m ≡ spelled (byteAt name 0) (byteAt name 1) (byteAt name 2) m
+      go name e = ap (λ (n : List ℕ). inDigits 2 (m .date .day) ++ bytes "-" ++ n ++ bytes "-" ++ inDigits 4 (m .date .year) ++ bytes " " ++ clockText m) e
 
   pub text-long : length (textOf m) ≡ 27
   unfolding inDigits
@@ -83,26 +102,34 @@ module _ (m : Moment) (january : 1 ≤ m .date .month) (december : m .date .mont
 
   -- as the code writes them, in pairs
   pub as-written : (48 + m .date .day / 10 % 10) ∷ (48 + m .date .day % 10) ∷ 45
-      ∷ letterIn firsts (m .date .month) ∷ letterIn seconds (m .date .month) ∷ letterIn thirds (m .date .month) ∷ 45
+      ∷ byteAt (monthName (m .date .month)) 0 ∷ byteAt (monthName (m .date .month)) 1 ∷ byteAt (monthName (m .date .month)) 2 ∷ 45
       ∷ (48 + m .date .year / 100 / 10 % 10) ∷ (48 + m .date .year / 100 % 10) ∷ (48 + m .date .year % 100 / 10 % 10) ∷ (48 + m .date .year % 100 % 10) ∷ 32
       ∷ (48 + m .hour / 10 % 10) ∷ (48 + m .hour % 10) ∷ 58 ∷ (48 + m .minute / 10 % 10) ∷ (48 + m .minute % 10) ∷ 58
       ∷ (48 + m .second / 10 % 10) ∷ (48 + m .second % 10) ∷ 46
-      ∷ (48 + m .microsecond / 10000 / 10 % 10) ∷ (48 + m .microsecond / 10000 % 10) ∷ (48 + m .microsecond / 100 % 100 / 10 % 10)
-      ∷ (48 + m .microsecond / 100 % 100 % 10) ∷ (48 + m .microsecond % 100 / 10 % 10) ∷ (48 + m .microsecond % 100 % 10) ∷ [] ≡ textOf m
+      ∷ (48 + m .microsecond / 10000 / 10 % 10) ∷ (48 + m .microsecond / 10000 % 10) ∷ (48 + m .microsecond % 10000 / 100 / 10 % 10)
+      ∷ (48 + m .microsecond % 10000 / 100 % 10) ∷ (48 + m .microsecond % 10000 % 100 / 10 % 10) ∷ (48 + m .microsecond % 10000 % 100 % 10) ∷ [] ≡ textOf m
   unfolding inDigits
   as-written =
       let y = m .date .year in
       let u = m .microsecond in
-      rw (is-spelled, tens y, ones y, hundreds y, hundred y, tens u, ones u, tens (u / 100), ones (u / 100), hundreds u, hundred u, ten-thousand u)
+      rw (is-spelled, tens y, ones y, hundreds y, hundred y, last-hundreds u, last-hundred u, last-tens u, last-ones u, ten-thousand u)
 
   -- ---- it is formed
 
   pub is-formed : formed (textOf m) ≡ true
-  unfolding formed some outside lowest highest byteAt inDigits
+  unfolding formed some misplaced outside lowest highest part byteAt inDigits
   is-formed =
-      let k = m .date .month in
-      let a = capitals k january december in
-      rw (is-spelled, a .0 .0, a .0 .1, a .1 .0 .0, a .1 .0 .1, a .1 .1 .0, a .1 .1 .1) (simp (least-digit, most-digit) refl)
+      let a = capitals (m .date .month) january december in
+      let at : ℕ → ℕ = λ i. byteAt (monthName (m .date .month)) i in
+      rw (
+        is-spelled,
+        le-leb 65 (at 0) (a .0 .0),
+        le-leb (at 0) 90 (a .0 .1),
+        le-leb 65 (at 1) (a .1 .0 .0),
+        le-leb (at 1) 90 (a .1 .0 .1),
+        le-leb 65 (at 2) (a .1 .1 .0),
+        le-leb (at 2) 90 (a .1 .1 .1),
+      ) (simp (least-digit, most-digit) refl)
 
   -- ---- it is read as the moment
 
@@ -112,7 +139,7 @@ module _ (m : Moment) (january : 1 ≤ m .date .month) (december : m .date .mont
 
   part-month : part (textOf m) 3 3 ≡ monthName (m .date .month)
   unfolding part inDigits
-  part-month = rw (is-spelled, name-spelled (m .date .month) january december)
+  part-month = rw is-spelled (sym (name-spelled (m .date .month) january december))
 
   part-year : part (textOf m) 7 4 ≡ inDigits 4 (m .date .year)
   unfolding part inDigits
@@ -167,22 +194,48 @@ pub record Form (t : List ℕ) : Type 0 where
   pub point : byteAt t 20 ≡ 46
   pub microsecond : AllDigits t 21 6
 
--- the code's test of a place
-pub place-test : (t : List ℕ) (i : ℕ) → (leb (byteAt lowest i) (byteAt t i) && leb (byteAt t i) (byteAt highest i)) ≡ not (outside t i)
-unfolding outside
-place-test t i = sym (not-not (leb (byteAt lowest i) (byteAt t i) && leb (byteAt t i) (byteAt highest i)))
-
 abbrev digitPlace : ℕ → Bool
 digitPlace k = eqb (byteAt lowest k) 48 && eqb (byteAt highest k) 57
 
 module _ (t : List ℕ) (h : T (formed t)) where
-  placed : (k : ℕ) → k < 27 → (byteAt lowest k ≤ byteAt t k) × (byteAt t k ≤ byteAt highest k)
-  unfolding formed outside
-  placed k u =
-      let w = within (byteAt lowest k) (byteAt highest k) (byteAt t k) in
-      let r = and-T (leb (byteAt lowest k) (byteAt t k)) (leb (byteAt t k) (byteAt highest k)) .0
-      (not-not-T w .0 (λ o. false≢true (sym (tested (outside t) 27 0 (not (some (outside t) 0 27)) refl (is-true (not (some (outside t) 0 27)) h) k (omega arith) (omega arith)) ∙ is-true (not w) o))) in
-      (leb→le (byteAt lowest k) (byteAt t k) (r .0), leb→le (byteAt t k) (byteAt highest k) (r .1))
+  -- neither place is misplaced
+  unmoved : (i : ℕ) → i < 16 → misplaced t i ≡ false
+  unfolding formed
+  unmoved i u = tested (misplaced t) 16 0 (not (some (misplaced t) 0 16)) refl (is-true (not (some (misplaced t) 0 16)) h) i (omega arith) (omega arith)
+
+  abbrev Placed : ℕ → Type 0
+  Placed k = (byteAt lowest k ≤ byteAt t k) × (byteAt t k ≤ byteAt highest k)
+
+  inside : (at i : ℕ) → i < 16 → outside t at i ≡ false → Placed (at + i)
+  unfolding outside
+  inside at i u e =
+      let lo = byteAt (part lowest at 16) i in
+      let hi = byteAt (part highest at 16) i in
+      let x = byteAt t (at + i) in
+      let r = and-T (leb lo x) (leb x hi) .0 (passed (within lo hi x) e) in
+      rw (← byte-part lowest at 16 i u, ← byte-part highest at 16 i u) (leb→le lo x (r .0), leb→le x hi (r .1))
+    where
+      passed : (w : Bool) → not w ≡ false → T w
+      passed true q = tt
+      passed false q = absurd (false≢true (sym q))
+
+  apart : (i : ℕ) → i < 16 → (outside t 0 i || outside t 11 i) ≡ false
+  unfolding misplaced
+  apart i u = unmoved i u
+
+  both : (i : ℕ) → i < 16 → (outside t 0 i ≡ false) × (outside t 11 i ≡ false)
+  both i u = go (outside t 0 i) (outside t 11 i) (apart i u)
+    where
+      go : (a b : Bool) → (a || b) ≡ false → (a ≡ false) × (b ≡ false)
+      go true b e = absurd (false≢true (sym e))
+      go false b e = (refl, e)
+
+  placed : (k : ℕ) → k < 27 → Placed k
+  placed k u = on (lt-or-le k 16)
+    where
+      on : (k < 16) ⊎ (16 ≤ k) → Placed k
+      on (inl l) = rw (zero-add k) at (inside 0 k l (both k l .0))
+      on (inr l) = let e : 11 + (k - 11) ≡ k = omega arith in rw e at (inside 11 (k - 11) (omega arith) (both (k - 11) (omega arith) .1))
 
   digits-told : (at n : ℕ) → at + n ≤ 27 → first (λ k. need (digitPlace k) 0 0 0) at n ≡ accepted → AllDigits t at n
   unfolding fits

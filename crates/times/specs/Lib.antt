@@ -1,4 +1,3 @@
 pub mod Times
 pub mod Order
 pub mod Formed
-pub mod Letters

@@ -85,11 +85,14 @@ fn moment_of(time: Time) -> Moment
     ensures { λ r. ⌜ T (validMoment r) × (timeOf r ≡ time) ⌝ }
 {
     let before = (time.days + DAYS_TO_2000) as u32;
+    let hour = time.seconds / 3600;
+    let rest = time.seconds - 3600 * hour;
+    let minute = rest / 60;
     Moment {
         date: calendar::date_after(before),
-        hour: time.seconds / 3600,
-        minute: time.seconds / 60 % 60,
-        second: time.seconds % 60,
+        hour,
+        minute,
+        second: rest - 60 * minute,
         microsecond: time.microseconds,
     }
 }

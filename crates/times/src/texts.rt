@@ -2,56 +2,88 @@
 use crate::Moment;
 use calendar::Date;
 ghost use mathlib.Core.Path.{_≡_};
-ghost use Prim.Native.Nat.{ℕ, _/_, _%_, _≤_, _<_};
+ghost use Prim.Native.Nat.{_+_, _*_, _-_, _/_, _%_, _≤_, _<_};
 ghost use lib.Dec.{T};
 ghost use lib.ListN.{length};
-ghost use Rattle.layout.specs.Bytes.{part, byteAt};
+ghost use Rattle.layout.specs.Bytes.{part};
 ghost use Rattle.times.specs.Times.{validMoment, monthName, textOf, monthIn, dateIn, momentIn};
-ghost use Rattle.times.specs.Letters.{letterIn};
-ghost use Rattle.times.specs.Formed.{formed, pairOf};
+ghost use Rattle.times.specs.Formed.{formed, nameNumber, monthNumbered, pairOf};
 
-// The first, second and third letters of the months' names, from January on five bits each, A being 1. A table that is asked at a place not known before is
-// copied each time; a number is not.
-const FIRST_LETTERS: u64 = 0x239_f30a_94d0_b4ca;
+// The lowest and the highest byte that can stand at each of the first 16 places, and of the last 16; of the month's name they say only that it has capitals.
+const FIRST_LOWEST: [u8; 16] = *b"00-AAA-0000 00:0";
 
-const SECOND_LETTERS: u64 = 0x2bc_65ad_6a18_04a1;
+const FIRST_HIGHEST: [u8; 16] = *b"99-ZZZ-9999 99:9";
 
-const THIRD_LETTERS: u64 = 0x1da_903b_1d99_484e;
+const LAST_LOWEST: [u8; 16] = *b" 00:00:00.000000";
 
-// The months by a number from 0 to 15 that the second and third letters give and no two months share, four bits each; January, where no month has it.
-const MONTHS_BY_LETTERS: u64 = 0x859c_a162_4b11_3711;
+const LAST_HIGHEST: [u8; 16] = *b" 99:99:99.999999";
 
-// The lowest and the highest byte that can stand at each place. Of the month's name they only say that it has capitals.
-const LOWEST: [u8; 27] = *b"00-AAA-0000 00:00:00.000000";
-
-const HIGHEST: [u8; 27] = *b"99-ZZZ-9999 99:99:99.999999";
-
-// A letter of a month's name.
-fn letter(letters: u64, month: u32) -> u8
+// A month's name as a number, the first letter in the lowest byte.
+fn name_of(month: u32) -> u32
     requires { ⌜ (1 ≤ month) × (month ≤ 12) ⌝ }
-    ensures { λ r. ⌜ r ≡ letterIn letters month ⌝ }
+    ensures { λ r. ⌜ r ≡ nameNumber (monthName month) ⌝ }
 {
-    (64 + (letters >> (5 * (month - 1))) % 32) as u8
+    match month {
+        1 => 0x4e414a,
+        2 => 0x424546,
+        3 => 0x52414d,
+        4 => 0x525041,
+        5 => 0x59414d,
+        6 => 0x4e554a,
+        7 => 0x4c554a,
+        8 => 0x475541,
+        9 => 0x504553,
+        10 => 0x54434f,
+        11 => 0x564f4e,
+        _ => 0x434544,
+    }
 }
 
-// Two digits, the first in the lower byte.
+// The month that has this number for its name, or 13.
+fn month_of_name(name: u32) -> u32
+    ensures { λ r. ⌜ r ≡ monthNumbered name ⌝ }
+{
+    match name {
+        0x4e414a => 1,
+        0x424546 => 2,
+        0x52414d => 3,
+        0x525041 => 4,
+        0x59414d => 5,
+        0x4e554a => 6,
+        0x4c554a => 7,
+        0x475541 => 8,
+        0x504553 => 9,
+        0x54434f => 10,
+        0x564f4e => 11,
+        0x434544 => 12,
+        _ => 13,
+    }
+}
+
+// Two digits, the first in the lower byte. 205/2048 of a number below 100 are its tens.
 fn two_digits(number: u32) -> u32
     requires { ⌜ number < 100 ⌝ }
     ensures { λ r. ⌜ r ≡ pairOf number ⌝ }
 {
-    0x3030 + number / 10 + 256 * (number % 10)
+    0x3030 + 256 * number - 2559 * (205 * number / 2048)
 }
 
-fn first(pair: u32) -> u8
-    ensures { λ r. ⌜ r ≡ pair % 256 ⌝ }
+fn first(number: u32) -> u8
+    ensures { λ r. ⌜ r ≡ number % 256 ⌝ }
 {
-    (pair % 256) as u8
+    (number % 256) as u8
 }
 
-fn second(pair: u32) -> u8
-    ensures { λ r. ⌜ r ≡ pair / 256 % 256 ⌝ }
+fn second(number: u32) -> u8
+    ensures { λ r. ⌜ r ≡ number / 256 % 256 ⌝ }
 {
-    (pair / 256 % 256) as u8
+    (number / 256 % 256) as u8
+}
+
+fn third(number: u32) -> u8
+    ensures { λ r. ⌜ r ≡ number / 65536 % 256 ⌝ }
+{
+    (number / 65536 % 256) as u8
 }
 
 pub fn text_of(moment: Moment) -> [u8; 27]
@@ -59,6 +91,8 @@ pub fn text_of(moment: Moment) -> [u8; 27]
     ensures { λ r. ⌜ r ≡ textOf moment ⌝ }
 {
     let date = moment.date;
+    let name = name_of(date.month);
+    let rest = moment.microsecond % 10_000;
     let day = two_digits(date.day);
     let century = two_digits(date.year / 100);
     let year = two_digits(date.year % 100);
@@ -66,15 +100,15 @@ pub fn text_of(moment: Moment) -> [u8; 27]
     let minute = two_digits(moment.minute);
     let seconds = two_digits(moment.second);
     let high = two_digits(moment.microsecond / 10_000);
-    let middle = two_digits(moment.microsecond / 100 % 100);
-    let low = two_digits(moment.microsecond % 100);
+    let middle = two_digits(rest / 100);
+    let low = two_digits(rest % 100);
     [
         first(day),
         second(day),
         b'-',
-        letter(FIRST_LETTERS, date.month),
-        letter(SECOND_LETTERS, date.month),
-        letter(THIRD_LETTERS, date.month),
+        first(name),
+        second(name),
+        third(name),
         b'-',
         first(century),
         second(century),
@@ -99,26 +133,40 @@ pub fn text_of(moment: Moment) -> [u8; 27]
     ]
 }
 
-// No byte is below the lowest or above the highest that can stand at its place.
+// By how much a byte is short of the least that may stand in its place.
+fn short_of(x: u8, least: u8) -> u8
+    ensures { λ r. ⌜ r ≡ least - x ⌝ }
+{
+    if x < least { least - x } else { 0 }
+}
+
+// No byte is below the lowest or above the highest that can stand at its place: by how much they are is put together, without an exit, in two blocks of 16
+// that the compiler takes side by side.
 pub fn is_formed(text: &[u8]) -> bool
     requires { ⌜ length (now text) ≡ 27 ⌝ }
     ensures { λ r. ⌜ r ≡ formed (now (text .entry)) ⌝ }
 {
-    let mut all = true;
+    let first_lowest = FIRST_LOWEST;
+    let first_highest = FIRST_HIGHEST;
+    let last_lowest = LAST_LOWEST;
+    let last_highest = LAST_HIGHEST;
+    let mut short = 0;
     let mut i = 0;
-    while i < 27 {
-        all = all & ((LOWEST[i] <= text[i]) & (text[i] <= HIGHEST[i]));
+    while i < 16 {
+        let x = text[i];
+        let y = text[11 + i];
+        short = short | (short_of(x, first_lowest[i]) | short_of(first_highest[i], x));
+        short = short | (short_of(y, last_lowest[i]) | short_of(last_highest[i], y));
         i += 1;
     }
-    all
+    short == 0
 }
 
-// The only month that can have these second and third letters.
-fn month_of_letters(second: u8, third: u8) -> u32
-    ensures { λ r. ⌜ ((1 ≤ r) × (r ≤ 12)) × ((m : ℕ) → 1 ≤ m → m ≤ 12 → byteAt (monthName m) 1 ≡ second → byteAt (monthName m) 2 ≡ third → r ≡ m) ⌝ }
+// Three letters as a number, the first in the lowest byte.
+fn number_of(first: u8, second: u8, third: u8) -> u32
+    ensures { λ r. ⌜ (r ≡ first + 256 * second + 65536 * third) × ((first < 256) × ((second < 256) × (third < 256))) ⌝ }
 {
-    let number = (second as u32 + 15 * (third as u32)) / 4 % 16;
-    ((MONTHS_BY_LETTERS >> (4 * number)) % 16) as u32
+    first as u32 + 256 * (second as u32) + 65536 * (third as u32)
 }
 
 // The month that the text names, or 13.
@@ -126,17 +174,8 @@ fn month_in(text: &[u8]) -> u32
     requires { ⌜ length (now text) ≡ 27 ⌝ }
     ensures { λ r. ⌜ r ≡ monthIn (part (now (text .entry)) 3 3) ⌝ }
 {
-    let month = month_of_letters(text[4], text[5]);
-    if text[3] != letter(FIRST_LETTERS, month) {
-        return 13;
-    }
-    if text[4] != letter(SECOND_LETTERS, month) {
-        return 13;
-    }
-    if text[5] != letter(THIRD_LETTERS, month) {
-        return 13;
-    }
-    month
+    let name = number_of(text[3], text[4], text[5]);
+    month_of_name(name)
 }
 
 fn date_in(text: &[u8]) -> Date

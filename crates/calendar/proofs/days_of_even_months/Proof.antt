@@ -19,7 +19,9 @@ add-result : tie.Need-add-result
 add-result c = record { fits = omega (arith, even-days (c .before .before .args .long) (c .before .before .args .days) (c .before .missing-days .ensures .0) (c .from-on .ensures), even-most (c .before .before .args .long) (c .before .before .args .days)) }
 
 returns : tie.Need-returns
-returns c = even-days (c .before .before .args .long) (c .before .before .args .days) (c .before .missing-days .ensures .0) (c .from-on .ensures)
+returns c =
+    let e = even-days (c .before .before .args .long) (c .before .before .args .days) (c .before .missing-days .ensures .0) (c .from-on .ensures) in
+    (e, omega (arith, e, even-most (c .before .before .args .long) (c .before .before .args .days)))
 
 pub days-of-even-months-spec : {M : Type 1} → statement M
 days-of-even-months-spec =

@@ -1,38 +1,58 @@
--- `times::texts::is_formed` meets its contract: the bytes so far, tested as a whole.
+-- `times::texts::is_formed` meets its contract: what the bytes so far are short of, put together.
 -- Assumes nothing.
 use Prim.Native.Nat.{_-_, _≤_}
 use mathlib.Core.Bool.{not}
-use mathlib.Core.Path.{_≡_, _∙_}
-use native.Mathlib.Nat.{zero-add}
+use mathlib.Core.Path.{_≡_, refl, sym, _∙_}
 use native.Mathlib.Omega.{arith}
-use Rattle.layout.specs.Bytes.{byteAt}
+use lib.Dec.{eqb}
+use Rattle.layout.specs.Bytes.{part, byteAt}
 use Rattle.layout.specs.Search.{some}
-use Rattle.text.proofs.Runs.{all-none, all-more, all-end}
-use Rattle.times.specs.Formed.{lowest, highest, outside, formed}
-use Rattle.times.proofs.Written.{place-test}
+use Rattle.times.specs.Formed.{lowest, highest, misplaced, formed}
+use Rattle.times.proofs.Blocks.{none-short, both-short, all-short}
 use Rattle.times.proofs.texts.is_formed.Statement.{statement}
 use Rattle.times.proofs.texts.is_formed.Tie as tie
 
 abbrev Inv-loop : tie.InvT-loop
-Inv-loop text all₀ i₀ all i = (i ≤ 27) × (all ≡ not (some (outside text) 0 i))
+Inv-loop text first-lowest first-highest last-lowest last-highest short₀ i₀ short i = (i ≤ 16) × (eqb short 0 ≡ not (some (misplaced text) 0 i))
 
 abbrev μ-loop : tie.MeasureT-loop
-μ-loop text all₀ i₀ all i = 27 - i
+μ-loop text first-lowest first-highest last-lowest last-highest short₀ i₀ short i = 16 - i
 
 loop-holds : tie.Need-loop-holds Inv-loop μ-loop
-loop-holds c = (omega arith, all-none _ _)
+loop-holds c = (omega arith, none-short (c .before .args .text .now))
 
-array-read-all : tie.Need-array-read-all Inv-loop μ-loop
-array-read-all c = omega arith
+shared-slice-read-x : tie.Need-shared-slice-read-x Inv-loop μ-loop
+shared-slice-read-x c = omega arith
 
-shared-slice-read-all : tie.Need-shared-slice-read-all Inv-loop μ-loop
-shared-slice-read-all c = omega arith
+add-y : tie.Need-add-y Inv-loop μ-loop
+add-y c = omega arith
 
-shared-slice-read-all-2 : tie.Need-shared-slice-read-all-2 Inv-loop μ-loop
-shared-slice-read-all-2 c = omega arith
+shared-slice-read-y : tie.Need-shared-slice-read-y Inv-loop μ-loop
+shared-slice-read-y c = omega arith
 
-array-read-all-2 : tie.Need-array-read-all-2 Inv-loop μ-loop
-array-read-all-2 c = omega arith
+array-read-short-of : tie.Need-array-read-short-of Inv-loop μ-loop
+array-read-short-of c = omega arith
+
+short-of-requires : tie.Need-short-of-requires Inv-loop μ-loop
+short-of-requires c κs = tt
+
+array-read-short-of-2 : tie.Need-array-read-short-of-2 Inv-loop μ-loop
+array-read-short-of-2 c = omega arith
+
+short-of-requires-2 : tie.Need-short-of-requires-2 Inv-loop μ-loop
+short-of-requires-2 c κs = tt
+
+array-read-short-of-3 : tie.Need-array-read-short-of-3 Inv-loop μ-loop
+array-read-short-of-3 c = omega arith
+
+short-of-requires-3 : tie.Need-short-of-requires-3 Inv-loop μ-loop
+short-of-requires-3 c κs = tt
+
+array-read-short-of-4 : tie.Need-array-read-short-of-4 Inv-loop μ-loop
+array-read-short-of-4 c = omega arith
+
+short-of-requires-4 : tie.Need-short-of-requires-4 Inv-loop μ-loop
+short-of-requires-4 c κs = tt
 
 add-i : tie.Need-add-i Inv-loop μ-loop
 add-i c = omega arith
@@ -41,15 +61,15 @@ loop-less : tie.Need-loop-less Inv-loop μ-loop
 loop-less c = omega arith
 
 loop-again : tie.Need-loop-again Inv-loop μ-loop
-unfolding byteAt lowest highest
+unfolding lowest highest part byteAt
 loop-again c =
-    let t = c .before .before .before .before .args .text .now in
-    let i = c .before .before .before .loop .i in
-    (omega arith, all-more (outside t) 0 i _ _ (c .before .before .before .loop .inv .1) (place-test t i ∙ rw (zero-add i)))
+    let t = c .before .before .before .before .before .before .before .before .before .args .text .now in
+    let loop = c .before .before .before .before .before .before .before .loop in
+    (omega arith, both-short t (loop .i) (loop .short) (loop .inv .1) (c .before .before .before .short-of .ensures) (c .before .before .short-of2 .ensures) (c .before .short-of3 .ensures) (c .short-of4 .ensures))
 
 returns : tie.Need-returns Inv-loop μ-loop
 unfolding formed
-returns c = all-end _ _ _ _ _ (omega arith) (omega arith) (c .before .loop .inv .1)
+returns c = all-short (c .before .before .before .args .text .now) (c .before .loop .i) (c .before .loop .short) (omega arith) (omega arith) (c .before .loop .inv .1)
 
 pub is-formed-spec : {M : Type 1} → statement M
 is-formed-spec =
@@ -58,10 +78,17 @@ is-formed-spec =
     Inv-loop
     μ-loop
     loop-holds
-    array-read-all
-    shared-slice-read-all
-    shared-slice-read-all-2
-    array-read-all-2
+    shared-slice-read-x
+    add-y
+    shared-slice-read-y
+    array-read-short-of
+    short-of-requires
+    array-read-short-of-2
+    short-of-requires-2
+    array-read-short-of-3
+    short-of-requires-3
+    array-read-short-of-4
+    short-of-requires-4
     add-i
     loop-less
     loop-again
