@@ -1,6 +1,7 @@
 /* Ambrothel for C and C++: every public call of the reader, over a product that lies in memory.
  *
- * Each function judges the product for itself, only reads it, and writes its answer into rooms that the caller lends.
+ * Each function judges the product for itself, only reads it, and writes its answer into rooms that the caller lends;
+ * the two of times and their texts take no product, judge what they are given, and are like the others in all else.
  * It returns AMBROTHEL_WRITTEN, or AMBROTHEL_ROOM_TOO_SHORT where a room is too short; then it has written nothing.
  * What lies in a room behind the answer is left as it was. docs/FORMAT.md has the layouts, the rules and the refusals.
  *
@@ -14,7 +15,7 @@
  * What a caller keeps to, and may rely on:
  *     lengths     count elements, not bytes; a room may be longer than its answer.
  *     null        no pointer may be null, not even where its length is 0: lend any address, as that of a local.
- *     overlap     no room may overlap the product or another room.
+ *     overlap     no room may overlap the product, a text that is given, or another room.
  *     alignment   words as uint64_t, point and model as double; product, texts and bytes need none.
  *     threads     a call knows nothing but its arguments: any number may run at once, on one product too, as long as
  *                 nobody writes to the product or uses a lent room meanwhile.
@@ -34,8 +35,8 @@ extern "C" {
 /* This boundary's version, 10000 * major + 100 * minor + patch: a new major where an answer's words change their
  * places or it takes more room, or a call its parameters; a new minor where something else is added; a new patch
  * where a rule judges otherwise. 10001: refusal 11 counts no empty sets. 20000: a directory has ranks, and takes 772
- * words for 644. 20100: residual extinction, refusals 22 to 24. */
-#define AMBROTHEL_VERSION 20100
+ * words for 644. 20100: residual extinction, refusals 22 to 24. 20200: times and their texts, refusals 30 and 31. */
+#define AMBROTHEL_VERSION 20200
 
 /* What a call returns. */
 #define AMBROTHEL_WRITTEN 0
@@ -54,6 +55,9 @@ extern "C" {
 #define AMBROTHEL_DIRECTORY_TEXTS 11520
 #define AMBROTHEL_EXTINCTION_WORDS 11
 #define AMBROTHEL_EXTINCTION_DOUBLES 1
+#define AMBROTHEL_TIME_WORDS 7
+#define AMBROTHEL_TIME_TEXT_WORDS 3
+#define AMBROTHEL_TIME_TEXT_LENGTH 27
 
 /* How much stack a call takes at most, in bytes. */
 #define AMBROTHEL_STACK 65536
@@ -97,7 +101,9 @@ enum ambrothel_refusal {
     AMBROTHEL_REFUSED_POINT = 21,
     AMBROTHEL_REFUSED_EXTINCTION_SET = 22,
     AMBROTHEL_REFUSED_PIXEL = 23,
-    AMBROTHEL_REFUSED_QUALITY = 24
+    AMBROTHEL_REFUSED_QUALITY = 24,
+    AMBROTHEL_REFUSED_TIME_TEXT = 30, /* 25 to 29 are given by no call of this version: later orders give them */
+    AMBROTHEL_REFUSED_TIME = 31
 };
 
 /* When the refusal of a number is given: one line of English without its end, for every number. */
@@ -129,7 +135,14 @@ static inline const char *ambrothel_refusal_text(uint64_t number)
         "latitude or longitude is outside its limits",
         "not exactly one entry of type M is named EXT_MDS, or its DSR_SIZE is not 25,709",
         "the pixel asked for is 2,336 or more",
-        "the record's quality is -1: it is empty"
+        "the record's quality is -1: it is empty",
+        "no refusal has this number", /* 25 to 29: later orders give them */
+        "no refusal has this number",
+        "no refusal has this number",
+        "no refusal has this number",
+        "no refusal has this number",
+        "the text is neither that of a time from 1980 to 2099 nor 27 blanks",
+        "the time is outside 1 January 1980 to 31 December 2099, or has over 86,399 seconds or 999,999 microseconds"
     };
     return number < sizeof texts / sizeof texts[0] ? texts[number] : "no refusal has this number";
 }
@@ -308,6 +321,29 @@ enum {
  * 25,709 bytes. The model is 0 beside a refusal. */
 uint32_t ambrothel_extinction_at(const uint8_t *product, size_t length, size_t record, size_t pixel, uint64_t *words,
                                  size_t words_length, double *model, size_t model_length);
+
+/* What a text says of a time, in words[AMBROTHEL_TIME_CASE]. */
+enum ambrothel_time_case {
+    AMBROTHEL_TIME_REFUSED = 0,
+    AMBROTHEL_TIME_GIVEN = 1,
+    AMBROTHEL_TIME_NOT_GIVEN = 2 /* the text is 27 blanks; the three numbers are 0 */
+};
+
+/* Where a time's answer has what. */
+enum {
+    AMBROTHEL_TIME_CASE = 3,
+    AMBROTHEL_TIME_DAYS = 4,        /* from 1 January 2000, with their sign */
+    AMBROTHEL_TIME_SECONDS = 5,     /* 0 to 86,399 */
+    AMBROTHEL_TIME_MICROSECONDS = 6 /* 0 to 999,999 */
+};
+
+/* The time that a text says, as those of the main header: DD-MMM-YYYY hh:mm:ss.uuuuuu, the month as three capitals,
+ * from 1 January 1980 to 31 December 2099, Gregorian. A text of another length and a second of 60 are refused. */
+uint32_t ambrothel_time_of_text(const uint8_t *text, size_t text_length, uint64_t *words, size_t words_length);
+
+/* The text of a time in the same form, written from text[0] on, without an end; its bytes are 0 beside a refusal. */
+uint32_t ambrothel_text_of_time(int32_t days, uint32_t seconds, uint32_t microseconds, uint64_t *words,
+                                size_t words_length, uint8_t *text, size_t text_length);
 
 #ifdef __cplusplus
 }

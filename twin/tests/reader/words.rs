@@ -30,6 +30,9 @@ fn lengths_are_those_of_the_header() {
         ("EXTINCTION_WORDS", words::EXTINCTION_WORDS),
         ("EXTINCTION_DOUBLES", words::EXTINCTION_DOUBLES),
         ("EXTINCTION_PIXELS", twin::PIXELS),
+        ("TIME_WORDS", words::TIME_WORDS),
+        ("TIME_TEXT_WORDS", words::TIME_TEXT_WORDS),
+        ("TIME_TEXT_LENGTH", twin::TIME_TEXT),
     ] {
         assert_eq!(defined(name), length, "{name}");
     }
