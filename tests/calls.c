@@ -365,18 +365,154 @@ static void check_extinction(const char *folder)
     check_pixel_refusals(product + place, name);
 }
 
-/* Each number has a text of its own, and a number that is no refusal's has one too. */
+struct moment {
+    const char *text;
+    int32_t days;
+    uint32_t seconds;
+    uint32_t microseconds;
+};
+
+/* The first and the last of the range, days before and behind 1 January 2000, and a day that only leap years have. */
+static const struct moment MOMENTS[] = {
+    {"01-JAN-1980 00:00:00.000000", -7305, 0, 0},       {"31-DEC-2099 23:59:59.999999", 36524, 86399, 999999},
+    {"31-DEC-1999 23:59:59.000017", -1, 86399, 17},     {"01-JAN-2000 00:00:00.000000", 0, 0, 0},
+    {"29-FEB-2000 12:34:56.789012", 59, 45296, 789012}, {"01-MAR-2002 00:01:00.100000", 790, 60, 100000}};
+
+/* A length, day, month, year, hour, minute, second or byte that no time has; the last two are of 26 and 28 blanks. */
+static const char *const NO_TIMES[] = {
+    "",
+    "01-JAN-1980 00:00:00.00000",
+    "01-JAN-1980 00:00:00.0000000",
+    "31-DEC-1979 23:59:59.999999",
+    "01-JAN-2100 00:00:00.000000",
+    "00-JAN-2000 00:00:00.000000",
+    "29-FEB-2001 00:00:00.000000",
+    "31-APR-2000 00:00:00.000000",
+    "01-Jan-2000 00:00:00.000000",
+    "01-JAM-2000 00:00:00.000000",
+    "01-JAN-2000 24:00:00.000000",
+    "01-JAN-2000 00:60:00.000000",
+    "31-DEC-2005 23:59:60.000000",
+    "01-JAN-2000T00:00:00.000000",
+    "01-JAN-2000 00:00:00,000000",
+    " 1-JAN-2000 00:00:00.000000",
+    "01-JAN-2000 00:00:00.00000 ",
+    "                          ",
+    "                            "};
+
+/* A day before and behind the range, and more seconds and microseconds than there are: the nearest and the farthest. */
+static const struct moment OUTSIDE[] = {
+    {"", -7306, 0, 0}, {"", 36525, 0, 0},      {"", INT32_MIN, 0, 0}, {"", INT32_MAX, 0, 0},
+    {"", 0, 86400, 0}, {"", 0, UINT32_MAX, 0}, {"", 0, 0, 1000000},   {"", 0, 0, UINT32_MAX}};
+
+/* What a room has before a call, and behind the answer after it. */
+static void fill_rooms(void)
+{
+    for (size_t i = 0; i < AMBROTHEL_DIRECTORY_WORDS; i++) {
+        words[i] = 77;
+    }
+    memset(bytes, 77, sizeof bytes);
+}
+
+/* Whether the rooms have from these places on what they had before. */
+static int is_left(size_t word, size_t byte)
+{
+    while (word < AMBROTHEL_DIRECTORY_WORDS && words[word] == 77) {
+        word++;
+    }
+    while (byte < sizeof bytes && bytes[byte] == 77) {
+        byte++;
+    }
+    return word == AMBROTHEL_DIRECTORY_WORDS && byte == sizeof bytes;
+}
+
+/* Every room that is too short, and then one that is longer than the answer. */
+static void ask_time(const char *text)
+{
+    const uint8_t *given = (const uint8_t *)text;
+    fill_rooms();
+    for (size_t room = 0; room < AMBROTHEL_TIME_WORDS; room++) {
+        CHECK(ambrothel_time_of_text(given, strlen(text), words, room) == AMBROTHEL_ROOM_TOO_SHORT);
+    }
+    CHECK(is_left(0, 0));
+    CHECK(ambrothel_time_of_text(given, strlen(text), words, AMBROTHEL_DIRECTORY_WORDS) == AMBROTHEL_WRITTEN);
+    CHECK(is_left(AMBROTHEL_TIME_WORDS, 0));
+}
+
+/* The same of a time: each of the two rooms is too short by itself. */
+static void ask_text(struct moment time)
+{
+    const int32_t days = time.days;
+    const uint32_t seconds = time.seconds, microseconds = time.microseconds;
+    fill_rooms();
+    for (size_t room = 0; room < AMBROTHEL_TIME_TEXT_WORDS; room++) {
+        CHECK(ambrothel_text_of_time(days, seconds, microseconds, words, room, bytes, ROOM) ==
+              AMBROTHEL_ROOM_TOO_SHORT);
+    }
+    for (size_t room = 0; room < AMBROTHEL_TIME_TEXT_LENGTH; room++) {
+        CHECK(ambrothel_text_of_time(days, seconds, microseconds, words, AMBROTHEL_DIRECTORY_WORDS, bytes, room) ==
+              AMBROTHEL_ROOM_TOO_SHORT);
+    }
+    CHECK(is_left(0, 0));
+    CHECK(ambrothel_text_of_time(days, seconds, microseconds, words, AMBROTHEL_DIRECTORY_WORDS, bytes, ROOM) ==
+          AMBROTHEL_WRITTEN);
+    CHECK(is_left(AMBROTHEL_TIME_TEXT_WORDS, AMBROTHEL_TIME_TEXT_LENGTH));
+}
+
+static int has_time(enum ambrothel_time_case which, struct moment time)
+{
+    return words[AMBROTHEL_TIME_CASE] == (uint64_t)which && (int64_t)words[AMBROTHEL_TIME_DAYS] == time.days &&
+           words[AMBROTHEL_TIME_SECONDS] == time.seconds && words[AMBROTHEL_TIME_MICROSECONDS] == time.microseconds;
+}
+
+/* Each moment from its text, and the text from it again. */
+static void check_times(void)
+{
+    const struct moment none = {"                           ", 0, 0, 0};
+    for (size_t i = 0; i < COUNT(MOMENTS); i++) {
+        ask_time(MOMENTS[i].text);
+        check(is_answered() && has_time(AMBROTHEL_TIME_GIVEN, MOMENTS[i]), MOMENTS[i].text, __LINE__);
+        ask_text(MOMENTS[i]);
+        check(is_answered() && memcmp(bytes, MOMENTS[i].text, AMBROTHEL_TIME_TEXT_LENGTH) == 0, MOMENTS[i].text,
+              __LINE__);
+    }
+    ask_time(none.text);
+    CHECK(is_answered() && has_time(AMBROTHEL_TIME_NOT_GIVEN, none));
+    for (size_t i = 0; i < COUNT(NO_TIMES); i++) {
+        ask_time(NO_TIMES[i]);
+        check(is_refused(AMBROTHEL_REFUSED_TIME_TEXT, 0, AMBROTHEL_NO_ENTRY) && has_time(AMBROTHEL_TIME_REFUSED, none),
+              NO_TIMES[i], __LINE__);
+    }
+    for (size_t i = 0; i < COUNT(OUTSIDE); i++) {
+        static const uint8_t zeros[AMBROTHEL_TIME_TEXT_LENGTH] = {0};
+        ask_text(OUTSIDE[i]);
+        CHECK(is_refused(AMBROTHEL_REFUSED_TIME, 0, AMBROTHEL_NO_ENTRY));
+        CHECK(memcmp(bytes, zeros, sizeof zeros) == 0);
+    }
+}
+
+/* Numbers that no refusal of this version has: 25 to 29, and those behind the last. */
+static int is_free(uint64_t number)
+{
+    return (number > AMBROTHEL_REFUSED_QUALITY && number < AMBROTHEL_REFUSED_TIME_TEXT) ||
+           number > AMBROTHEL_REFUSED_TIME;
+}
+
+/* Each number has a text of its own, and the numbers that are no refusal's have one together. */
 static void check_texts(void)
 {
     uint64_t number, lower;
-    for (number = AMBROTHEL_NOT_REFUSED; number <= AMBROTHEL_REFUSED_QUALITY + 1; number++) {
+    for (number = AMBROTHEL_NOT_REFUSED; number <= AMBROTHEL_REFUSED_TIME + 1; number++) {
         CHECK(ambrothel_refusal_text(number)[0] != '\0');
         for (lower = 0; lower < number; lower++) {
-            CHECK(strcmp(ambrothel_refusal_text(number), ambrothel_refusal_text(lower)) != 0);
+            const int are_same = strcmp(ambrothel_refusal_text(number), ambrothel_refusal_text(lower)) == 0;
+            CHECK(are_same == (is_free(number) && is_free(lower)));
         }
     }
-    CHECK(strcmp(ambrothel_refusal_text(UINT64_MAX), ambrothel_refusal_text(AMBROTHEL_REFUSED_QUALITY + 1)) == 0);
+    CHECK(strcmp(ambrothel_refusal_text(UINT64_MAX), ambrothel_refusal_text(AMBROTHEL_REFUSED_TIME + 1)) == 0);
     CHECK(strcmp(ambrothel_refusal_text(AMBROTHEL_REFUSED_TOT_SIZE), "TOT_SIZE is not the length") == 0);
+    CHECK(strncmp(ambrothel_refusal_text(AMBROTHEL_REFUSED_TIME_TEXT), "the text ", 9) == 0);
+    CHECK(strncmp(ambrothel_refusal_text(AMBROTHEL_REFUSED_TIME), "the time ", 9) == 0);
 }
 
 int main(int count, char **arguments)
@@ -394,6 +530,7 @@ int main(int count, char **arguments)
     check_fields();
     check_point();
     check_extinction(arguments[1]);
-    printf("all ten calls answer as the samples say, version %d\n", AMBROTHEL_VERSION);
+    check_times();
+    printf("all twelve calls answer as the samples say, version %d\n", AMBROTHEL_VERSION);
     return 0;
 }

@@ -12,9 +12,10 @@
 #include <ucontext.h>
 
 #define ROOM 65536
-#define CALLS 10
+#define CALLS 12
 #define PATTERN 0xa5
 
+static const uint8_t TEXT[] = "31-DEC-2099 23:59:59.999999";
 static uint8_t product[ROOM];
 static size_t length;
 static int asked;
@@ -38,7 +39,9 @@ static void call(void)
     case 6: ambrothel_record_part(product, length, 0, 0, words, room, bytes, ROOM); break;
     case 7: ambrothel_field_at(product, length, 0, 0, 0, AMBROTHEL_KIND_MJD, words, room); break;
     case 8: ambrothel_point_at(product, length, 0, 0, 0, 4, 8, words, room, point, AMBROTHEL_POINT_DOUBLES); break;
-    default: ambrothel_extinction_at(product, length, 0, 0, words, room, point, AMBROTHEL_POINT_DOUBLES);
+    case 9: ambrothel_extinction_at(product, length, 0, 0, words, room, point, AMBROTHEL_POINT_DOUBLES); break;
+    case 10: ambrothel_time_of_text(TEXT, AMBROTHEL_TIME_TEXT_LENGTH, words, room); break;
+    default: ambrothel_text_of_time(36524, 86399, 999999, words, room, bytes, ROOM);
     }
 }
 
