@@ -47,7 +47,28 @@ static int show_directory(const uint8_t *product, size_t length)
     return 0;
 }
 
-static void print_field(size_t kind, const uint64_t *words)
+/* A time's three numbers, and behind them its text or why it has none. */
+static int print_time(const uint64_t *field)
+{
+    const int32_t days = (int32_t)(int64_t)field[AMBROTHEL_FIELD_DAYS];
+    const uint32_t seconds = (uint32_t)field[AMBROTHEL_FIELD_SECONDS];
+    const uint32_t microseconds = (uint32_t)field[AMBROTHEL_FIELD_MICROSECONDS];
+    uint64_t words[AMBROTHEL_TIME_TEXT_WORDS];
+    uint8_t text[AMBROTHEL_TIME_TEXT_LENGTH];
+    if (ambrothel_text_of_time(days, seconds, microseconds, words, AMBROTHEL_TIME_TEXT_WORDS, text,
+                               AMBROTHEL_TIME_TEXT_LENGTH)) {
+        return 1;
+    }
+    printf("day %" PRId32 ", second %" PRIu32 ", microsecond %" PRIu32 ": ", days, seconds, microseconds);
+    if (words[AMBROTHEL_REFUSAL_NUMBER] == AMBROTHEL_NOT_REFUSED) {
+        printf("%.*s\n", AMBROTHEL_TIME_TEXT_LENGTH, (const char *)text);
+    } else {
+        printf("%s\n", ambrothel_refusal_text(words[AMBROTHEL_REFUSAL_NUMBER]));
+    }
+    return 0;
+}
+
+static int print_field(size_t kind, const uint64_t *words)
 {
     uint32_t single_bits = (uint32_t)words[AMBROTHEL_FIELD_BITS];
     float single_value;
@@ -66,9 +87,9 @@ static void print_field(size_t kind, const uint64_t *words)
         printf("%.17g\n", double_value);
         break;
     default:
-        printf("day %" PRId64 ", second %" PRIu64 ", microsecond %" PRIu64 "\n", (int64_t)words[AMBROTHEL_FIELD_DAYS],
-               words[AMBROTHEL_FIELD_SECONDS], words[AMBROTHEL_FIELD_MICROSECONDS]);
+        return print_time(words);
     }
+    return 0;
 }
 
 /* Each kind of field at the record's first byte. */
@@ -90,7 +111,9 @@ static int show_record(const uint8_t *product, size_t length, size_t entry, size
             printf("  %-3s passes the record's end\n", KIND_NAMES[kind]);
             continue;
         }
-        print_field(kind, words);
+        if (print_field(kind, words)) {
+            return 1;
+        }
     }
     return 0;
 }
