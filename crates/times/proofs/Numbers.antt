@@ -26,23 +26,11 @@ days-to-2000 = refl
 
 -- ---- the test
 
-below : (z : ℤ) (b : Bool) → ltZ z (negsuc 7304) ≡ true → false ≡ ((leZ (negsuc 7304) z && leZ z (pos 36524)) && b)
-below (pos n) b h = absurd (false≢true h)
-below (negsuc n) b h = rw (lt-leb n 7304 (ltb-true 7304 n h))
-
-above : (z : ℤ) (b : Bool) → ltZ z (negsuc 7304) ≡ false → (leZ z (pos 36524) && b) ≡ ((leZ (negsuc 7304) z && leZ z (pos 36524)) && b)
-above (pos n) b h = refl
-above (negsuc n) b h = rw (le-leb n 7304 (ltb-false 7304 n h))
-
-module _ (t : Time) (fits : SFits w32 (t .days)) where
-  pub too-early : ltZ (toZ w32 (ofZ w32 (t .days))) (negsuc 7304) ≡ true → false ≡ validTime t
-  unfolding validTime
-  too-early h = rw (first-day, last-day) (below (t .days) (ltb (t .seconds) 86400 && ltb (t .microseconds) 1000000) (rw (toZ-ofZ fits) at h))
-
-  pub by-rest : ltZ (toZ w32 (ofZ w32 (t .days))) (negsuc 7304) ≡ false
-      → (leZ (toZ w32 (ofZ w32 (t .days))) (pos 36524) && (ltb (t .seconds) 86400 && ltb (t .microseconds) 1000000)) ≡ validTime t
-  unfolding validTime
-  by-rest h = rw (first-day, last-day, toZ-ofZ fits) (above (t .days) (ltb (t .seconds) 86400 && ltb (t .microseconds) 1000000) (rw (toZ-ofZ fits) at h))
+-- as the code asks it
+pub in-range : (t : Time) → SFits w32 (t .days)
+    → ((leZ (negsuc 7304) (toZ w32 (ofZ w32 (t .days))) && leZ (toZ w32 (ofZ w32 (t .days))) (pos 36524)) && (ltb (t .seconds) 86400 && ltb (t .microseconds) 1000000)) ≡ validTime t
+unfolding validTime
+in-range t fits = rw (first-day, last-day, toZ-ofZ fits) refl
 
 -- ---- what is so of an mjd of the range
 

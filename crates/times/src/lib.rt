@@ -74,10 +74,8 @@ fn time_of(moment: Moment) -> Time
 fn is_time(time: Time) -> bool
     ensures { λ r. ⌜ r ≡ validTime time ⌝ }
 {
-    if time.days < -7305 {
-        return false;
-    }
-    (time.days <= 36524) & ((time.seconds < 86_400) & (time.microseconds < 1_000_000))
+    ((-7305 <= time.days) & (time.days <= 36524))
+        & ((time.seconds < 86_400) & (time.microseconds < 1_000_000))
 }
 
 fn moment_of(time: Time) -> Moment
