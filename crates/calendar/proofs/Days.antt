@@ -1,13 +1,12 @@
 -- The days of years and of months, as the code works them out.
 -- Assumes nothing.
-use Prim.Native.Nat.{ℕ, zero, suc, _+_, _*_, _-_, _/_, _%_, _≤_, _<_}
+use Prim.Native.Nat.{ℕ, suc, _+_, _*_, _-_, _/_, _%_, _≤_, _<_}
 use mathlib.Core.Bool.{Bool, true, false, cond, _&&_, not}
-use mathlib.Core.List.{List, [], _∷_}
-use mathlib.Core.Path.{_≡_, refl, sym, ap, _∙_}
+use mathlib.Core.Path.{_≡_, refl}
 use native.Mathlib.Omega.{arith}
-use lib.Dec.{T, leb, ltb, eqb, leb→le, ltb→lt, eqb→eq}
+use lib.Dec.{T, leb, ltb, eqb, leb→le, eqb→eq}
 use lib.ListN.{take, getD}
-use Rattle.layout.specs.Answer.{Answer, need, accepted}
+use Rattle.layout.specs.Answer.{need, accepted}
 use Rattle.layout.specs.Search.{first, sum}
 use Rattle.layout.proofs.Laws.{and-T, leb-T, eqb-T, need-accepts, first-accepts}
 use Rattle.calendar.specs.Calendar.{leap, months, daysOfYear, years}
@@ -122,13 +121,6 @@ pub year-long : (long : Bool) → sum (months long) ≡ cond long 366 365
 unfolding sum months
 year-long true = refl
 year-long false = refl
-
-pub year-most : (long : Bool) → sum (months long) ≤ 366
-year-most long = rw (year-long long) (most long)
-  where
-    most : (long : Bool) → cond long 366 365 ≤ 366
-    most true = omega arith
-    most false = omega arith
 
 -- no month has more than 31 days
 months-long : (long : Bool) → first (λ k. need (leb (getD (months long) k 0) 31) 0 0 0) 0 12 ≡ accepted

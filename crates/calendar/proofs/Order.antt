@@ -11,7 +11,7 @@ use lib.ListN.{take, getD}
 use Rattle.layout.specs.Search.{sum}
 use Rattle.layout.proofs.Laws.{lt-or-le}
 use Rattle.calendar.specs.declared.Date.{Date}
-use Rattle.calendar.specs.Calendar.{leap, months, daysOfMonth, daysOfYear, years, daysBefore}
+use Rattle.calendar.specs.Calendar.{leap, months, daysOfMonth, years, daysBefore}
 use Rattle.calendar.specs.Order.{_then_, dateOrder}
 use Rattle.calendar.proofs.Units.{over-before}
 use Rattle.calendar.proofs.Dates.{Dated, year-at, in-year, in-short}

@@ -1,6 +1,6 @@
 -- Which of two dates comes first (document 02, order 14, compares times).
 -- Assumes nothing.
-use Prim.Native.Nat.{ℕ, compare, Ordering, Ordering·lt, Ordering·eq, Ordering·gt}
+use Prim.Native.Nat.{compare, Ordering, Ordering·lt, Ordering·eq, Ordering·gt}
 use Rattle.calendar.specs.declared.Date.{Date}
 
 -- the first comparison, and where it finds no difference the second

@@ -84,7 +84,7 @@ number-is b at width m h l e =
 
 -- ---- ten digits, and twenty
 
-pub with-digit : (m x : ℕ) (xs : List ℕ) → T (fits digit x) → digits m (x ∷ xs) ≡ digits (m * 10 + (x - 48)) xs
+with-digit : (m x : ℕ) (xs : List ℕ) → T (fits digit x) → digits m (x ∷ xs) ≡ digits (m * 10 + (x - 48)) xs
 unfolding digits
 with-digit m x xs d = ap (λ (v : ℕ). digits v xs) (go (λ e. let k = digit-bounds x d in omega (arith, k .0)))
   where

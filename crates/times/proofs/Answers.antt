@@ -1,13 +1,13 @@
 -- The answer to a time: its text, or the refusal with zeros.
 -- Assumes nothing.
-use Prim.Native.Nat.{ℕ, _<_}
-use mathlib.Core.Bool.{Bool, true, false, false≢true}
+use Prim.Native.Nat.{ℕ}
+use mathlib.Core.Bool.{true, false, false≢true}
 use mathlib.Core.List.{List}
 use mathlib.Core.Path.{_≡_, refl, sym, ap, _∙_}
 use native.Mathlib.Omega.{arith}
 use lib.Dec.{T}
 use lib.IntN.{ℤ}
-use lib.ListN.{length, replicate}
+use lib.ListN.{replicate}
 use mir.Syntax.{w32}
 use mir.Val.{SFits, toZ, ofZ}
 use mir.Facts.{toZ-ofZ}
@@ -18,7 +18,7 @@ use Rattle.layout.specs.declared.Verdict.{Verdict}
 use Rattle.layout.specs.declared.Verdict.the-variants as verdict-cases
 use Rattle.layout.proofs.Tests.{is-true}
 use Rattle.times.specs.declared.Moment.{Moment}
-use Rattle.times.specs.Times.{validMoment, timeOf, textOf, momentIn, given, timeOfText, validTime, TextIs, TextAnswer}
+use Rattle.times.specs.Times.{validMoment, timeOf, textOf, momentIn, given, timeOfText, validTime, TextAnswer}
 use Rattle.times.proofs.Written.{text-long, is-formed, moment-back}
 use Rattle.times.proofs.Moments.{Valid, valid, valid-day}
 use Rattle.times.proofs.Said.{told, said-time}

@@ -1,12 +1,12 @@
 -- The names of the months: where the code has their letters, and that it finds each month again from its letters.
 -- Assumes nothing.
 use Prim.Native.Nat.{ℕ, zero, suc, _+_, _*_, _-_, _/_, _%_, _≤_, _<_}
-use mathlib.Core.Bool.{Bool, true, false, cond, _&&_, and-true}
+use mathlib.Core.Bool.{Bool, true, false, _&&_}
 use mathlib.Core.List.{List, [], _∷_}
 use mathlib.Core.Logic.{_⊎_, inl, inr}
 use mathlib.Core.Path.{_≡_, refl, sym, ap, _∙_}
 use native.Mathlib.Omega.{arith}
-use lib.Dec.{T, leb, eqb, leb→le, eqb→eq, eqb-refl}
+use lib.Dec.{T, leb, eqb, eqb→eq, eqb-refl}
 use lib.ListN.{getD}
 use Rattle.layout.specs.Bytes.{bytes, byteAt}
 use Rattle.layout.specs.Answer.{need, accepted}
@@ -68,14 +68,6 @@ names-found = refl
 
 pub month-back : (m : ℕ) → 1 ≤ m → m ≤ 12 → monthIn (monthName m) ≡ m
 month-back m l u = eqb→eq (monthIn (monthName m)) m (each-passes (λ m. eqb (monthIn (monthName m)) m) 1 12 names-found m l (omega arith))
-
-pub month-first : (name : List ℕ) → 1 ≤ monthIn name
-unfolding monthIn
-month-first name = find-bounds (isNamed name) 1 12 .0
-
-month-last : (name : List ℕ) → monthIn name ≤ 13
-unfolding monthIn
-month-last name = find-bounds (isNamed name) 1 12 .1
 
 pub name-back : (name : List ℕ) → monthIn name ≤ 12 → monthName (monthIn name) ≡ name
 unfolding monthIn isNamed

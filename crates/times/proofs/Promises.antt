@@ -1,19 +1,18 @@
 -- Theorems over the two calls, from their promises alone: whatever results they allow.
 -- Assumes nothing.
-use Prim.Native.Nat.{ℕ, _<_, Ordering}
-use mathlib.Core.Bool.{Bool, true, false, cond, false≢true}
+use Prim.Native.Nat.{ℕ}
+use mathlib.Core.Bool.{Bool, true, false, cond}
 use mathlib.Core.List.{List}
 use mathlib.Core.Path.{_≡_, refl, sym, ap, _∙_}
 use native.Mathlib.Omega.{arith}
 use lib.Dec.{T}
 use lib.ListN.{length, replicate, length-replicate}
 use Rattle.layout.specs.Bytes.{byteAt}
-use Rattle.layout.specs.Answer.{accepted, need, none, Reply, refusal, is, _else_}
+use Rattle.layout.specs.Answer.{accepted, need, none, refusal, is, _else_}
 use Rattle.layout.specs.Answers.{verdictIs}
 use Rattle.layout.specs.declared.Time.{Time}
 use Rattle.layout.proofs.Maps.{refusals, one-verdict}
-use Rattle.layout.proofs.Tests.{is-true, is-false}
-use Rattle.times.specs.declared.Moment.{Moment}
+use Rattle.layout.proofs.Tests.{is-true}
 use Rattle.times.specs.declared.TimeAnswer.{TimeAnswer}
 use Rattle.times.specs.declared.TimeAnswer.the-variants as answers
 use Rattle.times.specs.declared.TimeText.{TimeText}

@@ -1,8 +1,8 @@
 -- What the tests of a text say of its answer.
 -- Assumes nothing.
-use Prim.Native.Nat.{ℕ, zero, suc, _+_, _≤_, _<_}
-use mathlib.Core.Bool.{Bool, true, false, cond, _&&_, not, false≢true}
-use mathlib.Core.List.{List, [], _∷_}
+use Prim.Native.Nat.{ℕ, _≤_, _<_}
+use mathlib.Core.Bool.{Bool, true, false, not, false≢true}
+use mathlib.Core.List.{List}
 use mathlib.Core.Path.{_≡_, refl, sym, ap, _∙_}
 use native.Mathlib.Omega.{arith}
 use lib.Dec.{T, eqb}
@@ -10,17 +10,16 @@ use lib.ListN.{length, getD, getD-replicate}
 use lib.Seq.{ext-getD}
 use borrow.Author.Tests.{eqb-true}
 use Rattle.layout.specs.Bytes.{part, byteAt}
-use Rattle.layout.specs.Answer.{need, none, refusal, is, _else_}
+use Rattle.layout.specs.Answer.{refusal, is}
 use Rattle.layout.specs.Search.{find}
 use Rattle.layout.proofs.Laws.{and-T, find-before}
 use Rattle.layout.proofs.Tests.{is-true, is-false}
 use Rattle.text.specs.Blanks.{notBlank}
-use Rattle.times.specs.declared.Moment.{Moment}
 use Rattle.times.specs.Times.{validMoment, timeOf, textOf, sameBytes, monthIn, dateIn, momentIn, validText, blankText, notGiven, given, timeOfText}
 use Rattle.times.specs.Formed.{formed}
 use Rattle.times.proofs.Months.{same-is, is-same}
-use Rattle.times.proofs.Written.{text-long, is-formed, Form, form, text-back, moment-back}
-use Rattle.times.proofs.Moments.{Valid, valid, valid-day}
+use Rattle.times.proofs.Written.{text-long, is-formed, form, text-back}
+use Rattle.times.proofs.Moments.{Valid, valid}
 
 pub told : (t : Bool) → t ≡ true → T t
 told t e = rw e tt

@@ -1,6 +1,6 @@
 -- A moment's text is of the form that the code tests and is read as that moment; a text of the form is the text of the moment that it is read as.
 -- Assumes nothing.
-use Prim.Native.Nat.{ℕ, zero, suc, _+_, _*_, _-_, _/_, _%_, _^_, _≤_, _<_}
+use Prim.Native.Nat.{ℕ, suc, _+_, _-_, _/_, _%_, _≤_, _<_}
 use mathlib.Core.Bool.{Bool, true, false, _&&_, _||_, not, false≢true}
 use mathlib.Core.List.{List, [], _∷_, _++_}
 use mathlib.Core.Logic.{_⊎_, inl, inr}
@@ -9,19 +9,18 @@ use native.Mathlib.Nat.{zero-add}
 use native.Mathlib.Omega.{arith}
 use borrow.Author.Tests.{le-leb}
 use lib.Dec.{T, leb, eqb, leb→le, le→leb, eqb→eq}
-use lib.ListN.{length, take, drop, getD}
+use lib.ListN.{length}
 use lib.Seq.{take-all}
 use Rattle.layout.specs.Bytes.{bytes, part, byteAt, within}
 use Rattle.layout.specs.Answer.{need, accepted}
 use Rattle.layout.specs.Search.{first, some}
-use Rattle.layout.specs.Text.{digit, fits, digits}
+use Rattle.layout.specs.Text.{fits, digits}
 use Rattle.layout.proofs.Laws.{and-T, lt-or-le}
 use Rattle.layout.proofs.Tests.{is-true}
 use Rattle.text.specs.Numbers.{AllDigits}
 use Rattle.text.proofs.Runs.{tested}
 use Rattle.text.proofs.Parts.{byte-part}
 use Rattle.calendar.proofs.Days.{each-passes}
-use Rattle.calendar.specs.declared.Date.{Date}
 use Rattle.times.specs.declared.Moment.{Moment}
 use Rattle.times.specs.Times.{inDigits, monthName, dateText, clockText, textOf, monthIn, dateIn, momentIn}
 use Rattle.times.specs.Formed.{lowest, highest, outside, misplaced, formed, pairOf}

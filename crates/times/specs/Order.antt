@@ -1,6 +1,6 @@
 -- Which of two times and of two moments comes first.
 -- Assumes nothing.
-use Prim.Native.Nat.{ℕ, compare, Ordering, Ordering·lt, Ordering·gt}
+use Prim.Native.Nat.{compare, Ordering, Ordering·lt, Ordering·gt}
 use lib.IntN.{ℤ, pos, negsuc}
 use Rattle.layout.specs.declared.Time.{Time}
 use Rattle.calendar.specs.Order.{_then_, dateOrder}
