@@ -66,10 +66,10 @@ sameBytes [] (y ∷ ys) = false
 sameBytes (x ∷ xs) [] = false
 sameBytes (x ∷ xs) (y ∷ ys) = eqb x y && sameBytes xs ys
 
--- the month of a name, or 13
 unfoldable pub isNamed : List ℕ → ℕ → Bool
 isNamed name m = sameBytes name (monthName m)
 
+-- the month of this name, or 13
 unfoldable pub monthIn : List ℕ → ℕ
 monthIn name = find (isNamed name) 1 12
 

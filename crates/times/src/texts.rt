@@ -18,7 +18,7 @@ const LAST_LOWEST: [u8; 16] = *b" 00:00:00.000000";
 
 const LAST_HIGHEST: [u8; 16] = *b" 99:99:99.999999";
 
-// A month's name as a number, the first letter in the lowest byte.
+// A month's name as a number, the first letter in the lowest byte: the compiler keeps such answers in the program, where it would copy an array of them.
 fn name_of(month: u32) -> u32
     requires { ⌜ (1 ≤ month) × (month ≤ 12) ⌝ }
     ensures { λ r. ⌜ r ≡ nameNumber (monthName month) ⌝ }
