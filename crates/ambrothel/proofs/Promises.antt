@@ -6,16 +6,18 @@ use mathlib.Core.List.{List, [], _++_, append-nil}
 use mathlib.Core.Logic.{_↔_}
 use mathlib.Core.Path.{_≡_, refl, sym}
 use native.Mathlib.Omega.{arith}
+use lib.Dec.{T}
 use lib.Ieee.{Float}
 use lib.ListN.{length, getD, length-append}
-use Rattle.layout.specs.Answer.{Answer, accepted, refused, Reply, refusal, is}
+use Rattle.layout.specs.Answer.{Answer, accepted, refused, none, need, Reply, refusal, is}
 use Rattle.layout.specs.Rules.{verdict}
 use Rattle.layout.specs.Answers.{directoryFor}
 use Rattle.values.specs.Header.{headerFor}
 use Rattle.layout.specs.Records.{sphPlace, recordPlace}
 use Rattle.layout.specs.Fields.{fieldReply, pointReply}
-use Rattle.layout.proofs.Laws.{accepted≢refused}
-use Rattle.layout.proofs.Replies.{refusal≢is, Numbered, NumberedReply}
+use Rattle.layout.specs.declared.Time.{Time}
+use Rattle.layout.proofs.Laws.{accepted≢refused, need-accepts}
+use Rattle.layout.proofs.Replies.{refusal≢is, Numbered, NumberedReply, need-numbered}
 use Rattle.product.proofs.Numbers.{verdict-number, sph-number, record-number, field-number, point-number}
 use Rattle.words.specs.Words.{verdictWords, placeWords, fieldWords, pointWords}
 use Rattle.words.specs.Headers.{headerWords, directoryWords}
@@ -25,6 +27,10 @@ use Rattle.extinction.specs.Extinction.{pixelReply}
 use Rattle.extinction.proofs.Promises.{pixel-number}
 use Rattle.extinction_words.specs.PixelWords.{pixelWords, PixelRooms}
 use Rattle.extinction_words.proofs.Answers.{pixel-eleven}
+use Rattle.times.specs.Times.{timeOfText, validTime}
+use Rattle.times.proofs.Promises.{refused-30}
+use Rattle.time_words.specs.TimeWords.{timeWords, TextRooms}
+use Rattle.time_words.proofs.Answers.{time-seven}
 use Rattle.ambrothel.specs.Calls.{DirectoryCall, HeaderCall}
 use Rattle.words.proofs.Lengths.{verdict-three, place-five, field-seven, point-three}
 use Rattle.words.proofs.Results.{room-word, first-room-word}
@@ -135,3 +141,29 @@ module _ (b : List ℕ) (d : ℕ) (words words′ : List ℕ) where
   -- where there is a pixel
   pub pixel-word : (j pixel : ℕ) (model model′ : List Float) → PixelRooms (pixelReply b j pixel) words words′ model model′ 0 → (getD words′ 0 d ≡ 0) ↔ Given (pixelReply b j pixel)
   pixel-word j pixel model model′ = in-first d (pixelWords (pixelReply b j pixel)) words words′ (rw (pixel-eleven (pixelReply b j pixel)) (omega arith)) (pixel-zero b d j pixel)
+
+-- ---- times and their texts
+
+time-number : (t : List ℕ) → NumberedReply 31 (timeOfText t)
+time-number t n p e h = let q = refused-30 t n p e h .0 in (omega arith, omega arith)
+
+module _ (d : ℕ) where
+  pub time-zero : (t : List ℕ) → (getD (timeWords (timeOfText t)) 0 d ≡ 0) ↔ Given (timeOfText t)
+  unfolding timeWords
+  time-zero t = reply-zero timeWords d (λ n p e. refl) (λ x. refl) (timeOfText t) (time-number t)
+
+  pub text-zero : (t : Time) → (getD (verdictWords (need (validTime t) 31 0 none)) 0 d ≡ 0) ↔ (need (validTime t) 31 0 none ≡ accepted)
+  text-zero t = rw append-nil at (verdict-zero (need (validTime t) 31 0 none) (need-numbered 31 (validTime t) 31 0 none (omega arith) (omega arith)) [] d)
+
+  module _ (words words′ : List ℕ) where
+    -- a host reads 0 in word 0 exactly where the text has a time or is blank
+    pub time-word : (t : List ℕ) → OneRoom (timeWords (timeOfText t)) words words′ 0 → (getD words′ 0 d ≡ 0) ↔ Given (timeOfText t)
+    time-word t = in-room d (timeWords (timeOfText t)) words words′ (rw (time-seven (timeOfText t)) (omega arith)) (time-zero t)
+
+    -- where the time is of the range
+    pub text-word : (t : Time) (text text′ : List ℕ) → TextRooms t words words′ text text′ 0 → (getD words′ 0 d ≡ 0) ↔ T (validTime t)
+    text-word t text text′ x =
+        let a = need (validTime t) 31 0 none in
+        let z = in-first d (verdictWords a) words words′ (rw (verdict-three a) (omega arith)) (text-zero t) (x .rooms) in
+        let v = need-accepts (validTime t) 31 0 none in
+        (λ h. v .0 (z .0 h), λ h. z .1 (v .1 h))
