@@ -7,7 +7,6 @@ use layout::Refusal;
 use layout::Time;
 use layout::Verdict;
 ghost use mathlib.Core.Path.{_≡_};
-ghost use Prim.Native.Nat.{_≤_};
 ghost use lib.Dec.{T};
 ghost use Rattle.layout.specs.Answer.{refusal};
 ghost use Rattle.times.specs.Times.{validMoment, timeOf, timeOfText, timeAnswerIs, validTime, TextAnswer};

@@ -191,7 +191,7 @@ fn date_in(text: &[u8]) -> Date
     }
 }
 
-// The moment that a text can only be the text of.
+// The only moment that a text can be the text of.
 pub fn moment_in(text: &[u8]) -> Moment
     requires { ⌜ (length (now text) ≡ 27) × T (formed (now text)) ⌝ }
     ensures { λ r. ⌜ r ≡ momentIn (now (text .entry)) ⌝ }

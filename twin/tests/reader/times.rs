@@ -164,7 +164,7 @@ fn a_clock_ends_before_24_60_and_60() {
 
 #[test]
 fn months_are_three_capitals_of_their_own() {
-    for name in ["Jan", "jan", "JAn", "jAN", "JAM", "NAJ", "XXX", "   ", "\0\0\0", "001", "MRZ", "DEZ"]
+    for name in ["Jan", "jan", "JAn", "jAN", "JAM", "NAJ", "QQQ", "   ", "\0\0\0", "001", "MRZ", "DEZ"]
     {
         is_no_text(format!("01-{name}-2000 00:00:00.000000"));
     }
