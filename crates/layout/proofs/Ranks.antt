@@ -33,6 +33,7 @@ all-at P d (x ∷ xs) h (suc k) l = all-at P d xs h.1 k (omega arith)
 
 -- one of a list has a number
 some_at : {A : Type 0} (P : A → Type 0) (d : A) (xs : List A) → Some P xs → (k : ℕ) × (k < length xs) × P (get_or xs k d)
+some_at P d [] h = elim h [ ]
 some_at P d (x ∷ xs) (inl h) = (0, omega arith, h)
 some_at P d (x ∷ xs) (inr h) = let r = some_at P d xs h in (suc r.0, omega (arith, r.1), r.2)
 

@@ -118,9 +118,10 @@ join_parts : (b : List ℕ) (ns : List ℕ) (s : ℕ) → join (map (part_from b
 unfolding sum
 join_parts b [] s = refl
 join_parts b (n ∷ ns) s =
+    let e : map (λ j. part_from b s (n ∷ ns) (suc j)) (upto 0 (length ns)) ≡ map (part_from b (s + n) ns) (upto 0 (length ns)) = ap (λ (f : ℕ → List ℕ). map f (upto 0 (length ns))) (fun_ext (part_shift b s n ns)) in
     rw (
       map_shift (part_from b s (n ∷ ns)) 0 (length ns),
-      fun_ext (part_shift b s n ns),
+      e,
       join_parts b ns (s + n),
       take-add n (sum ns) (drop s b),
       drop-drop n s b,
@@ -350,8 +351,8 @@ module _ (b : List ℕ) (m : Sound b) where
   each_byte_once p l = go (lt-or-le p 1247) (lt-or-le p (headers_end b))
     where
       go : (p < 1247) ⊎ (1247 ≤ p) → (p < headers_end b) ⊎ (headers_end b ≤ p) → (w : Part) × Lies b p w × ((v : Part) → Lies b p v → v ≡ w)
-      go (inl h) k = (main_header, h, λ v. elim v [ main_header ↦ λ g. refl | specific_header ↦ λ g. absurd (omega (arith, g.0)) | record' i j ↦ λ g. absurd (omega (arith, after_main b m, beyond p i j g)) ])
-      go (inr h) (inl k) = (specific_header, (h, k), λ v. elim v [ main_header ↦ λ g. absurd (omega arith) | specific_header ↦ λ g. refl | record' i j ↦ λ g. absurd (omega (arith, beyond p i j g)) ])
+      go (inl h) k = (main_header, h, λ v. elim v as (λ x. Lies b p x → x ≡ main_header) [ main_header ↦ λ g. refl | specific_header ↦ λ g. absurd (omega (arith, g.0)) | record' i j ↦ λ g. absurd (omega (arith, after_main b m, beyond p i j g)) ])
+      go (inr h) (inl k) = (specific_header, (h, k), λ v. elim v as (λ x. Lies b p x → x ≡ specific_header) [ main_header ↦ λ g. absurd (omega arith) | specific_header ↦ λ g. refl | record' i j ↦ λ g. absurd (omega (arith, beyond p i j g)) ])
       go (inr h) (inr k) = let r = there p k l in (record' r.0 r.1, r.2, once p r.0 r.1 r.2)
 
 -- demand 3, its second sentence

@@ -24,7 +24,7 @@ same-length-2 c = search rules
 returns-2 : tie.Need-returns-2
 returns-2 c = column_written _ _ _ (omega arith) c.before.before.before.before.before.put-column.ensures c.before.before.put-verdict.ensures
 
-pub ambrothel-column-spec : {M : Type 1} → statement M
-ambrothel-column-spec =
+pub ambrothel_column_spec : {M : Type 1} → statement M
+ambrothel_column_spec =
     tie.close
     (tie.spec returns put-column-requires put-verdict-requires same_length same-length-2 returns-2)

@@ -35,8 +35,8 @@ returns-3 : tie.Need-returns-3
 returns-3 c = let asked = c.before.before.before.before.before.before.before.before.pixel-at in
     both_written (spelled (ap pixel_words asked.ensures) c.before.before.before.before.before.before.put-pixel.ensures) (spelled (ap model_double asked.ensures) c.before.before.put-model.ensures) (rw pixel_eleven (omega arith)) (rw model-one (omega arith))
 
-pub ambrothel-extinction-at-spec : {M : Type 1} → statement M
-ambrothel-extinction-at-spec =
+pub ambrothel_extinction_at_spec : {M : Type 1} → statement M
+ambrothel_extinction_at_spec =
     tie.close
     (tie.spec
     returns

@@ -25,6 +25,6 @@ same_length c = search rules
 returns-2 : tie.Need-returns-2
 returns-2 c = one_written (spelled (ap field_words c.before.before.before.field_at.ensures) c.before.before.put-field.ensures) (rw field_seven (omega arith))
 
-pub ambrothel-field-at-spec : {M : Type 1} → statement M
-ambrothel-field-at-spec =
+pub ambrothel_field_at_spec : {M : Type 1} → statement M
+ambrothel_field_at_spec =
     tie.close (tie.spec returns field-at-requires put-field-requires same_length returns-2)

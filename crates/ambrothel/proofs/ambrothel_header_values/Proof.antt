@@ -21,7 +21,7 @@ returns c =
     let answered = c.before.before.before.before.before.before.before.before.header_values in
     rw (← answered.ensures.1, ← answered.ensures.0) c.before.before.before.before.put-whole-header.ensures
 
-pub ambrothel-header-values-spec : {M : Type 1} → statement M
-ambrothel-header-values-spec =
+pub ambrothel_header_values_spec : {M : Type 1} → statement M
+ambrothel_header_values_spec =
     tie.close
     (tie.spec header-values-requires put-whole-header-requires same_length same-length-2 returns)

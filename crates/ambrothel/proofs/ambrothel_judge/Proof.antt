@@ -25,6 +25,6 @@ same_length c = search rules
 returns-2 : tie.Need-returns-2
 returns-2 c = one_written (spelled (ap verdict_words c.before.before.before.judge.ensures) c.before.before.put-verdict.ensures) (rw verdict_three (omega arith))
 
-pub ambrothel-judge-spec : {M : Type 1} → statement M
-ambrothel-judge-spec =
+pub ambrothel_judge_spec : {M : Type 1} → statement M
+ambrothel_judge_spec =
     tie.close (tie.spec returns judge-requires put-verdict-requires same_length returns-2)

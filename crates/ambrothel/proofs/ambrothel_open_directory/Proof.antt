@@ -90,8 +90,8 @@ returns-4 c =
     let accepted = ranked.before.before.before.before.before.before in
     all_put _ _ _ (held accepted) ranked.rank-sets.ensures accepted.before.before.before.before.before.if1.false accepted.before.before.before.before.if2.false numbers.put-directory-numbers.ensures c.before.before.before.before.before.before.put-names.ensures c.before.before.put-filenames.ensures
 
-pub ambrothel-open-directory-spec : {M : Type 1} → statement M
-ambrothel-open-directory-spec =
+pub ambrothel_open_directory_spec : {M : Type 1} → statement M
+ambrothel_open_directory_spec =
     tie.close
     (tie.spec
     returns

@@ -35,8 +35,8 @@ returns-3 : tie.Need-returns-3
 returns-3 c = let asked = c.before.before.before.before.before.before.before.before.point_at in
     both_written (spelled (ap point_words asked.ensures) c.before.before.before.before.before.before.put-point.ensures) (spelled (ap point_doubles asked.ensures) c.before.before.put-doubles.ensures) (rw point_three (omega arith)) (rw doubles_three (omega arith))
 
-pub ambrothel-point-at-spec : {M : Type 1} → statement M
-ambrothel-point-at-spec =
+pub ambrothel_point_at_spec : {M : Type 1} → statement M
+ambrothel_point_at_spec =
     tie.close
     (tie.spec
     returns

@@ -19,6 +19,6 @@ same-length-2 c = search rules
 returns : tie.Need-returns
 returns c = rw (← c.before.before.before.before.before.before.before.record-part.ensures) c.before.before.before.before.put-part.ensures
 
-pub ambrothel-record-part-spec : {M : Type 1} → statement M
-ambrothel-record-part-spec =
+pub ambrothel_record_part_spec : {M : Type 1} → statement M
+ambrothel_record_part_spec =
     tie.close (tie.spec record-part-requires put-part-requires same_length same-length-2 returns)

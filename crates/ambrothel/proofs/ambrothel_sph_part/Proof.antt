@@ -19,6 +19,6 @@ same-length-2 c = search rules
 returns : tie.Need-returns
 returns c = rw (← c.before.before.before.before.before.before.before.sph-part.ensures) c.before.before.before.before.put-part.ensures
 
-pub ambrothel-sph-part-spec : {M : Type 1} → statement M
-ambrothel-sph-part-spec =
+pub ambrothel_sph_part_spec : {M : Type 1} → statement M
+ambrothel_sph_part_spec =
     tie.close (tie.spec sph-part-requires put-part-requires same_length same-length-2 returns)

@@ -25,6 +25,6 @@ same_length c = search rules
 returns-2 : tie.Need-returns-2
 returns-2 c = one_written (spelled (ap place_words c.before.before.before.sph-place.ensures) c.before.before.put-place.ensures) (rw place_five (omega arith))
 
-pub ambrothel-sph-place-spec : {M : Type 1} → statement M
-ambrothel-sph-place-spec =
+pub ambrothel_sph_place_spec : {M : Type 1} → statement M
+ambrothel_sph_place_spec =
     tie.close (tie.spec returns sph-place-requires put-place-requires same_length returns-2)

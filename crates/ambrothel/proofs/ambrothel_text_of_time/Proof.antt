@@ -24,7 +24,7 @@ returns c =
     let answer = c.before.before.before.before.before.before.before.text-of-time in
     text-rooms _ answer.result (time-kept start.args.days start.args.seconds start.args.microseconds start.ranges.days) answer.ensures c.before.before.before.before.put-whole-text.ensures
 
-pub ambrothel-text-of-time-spec : {M : Type 1} → statement M
-ambrothel-text-of-time-spec =
+pub ambrothel_text_of_time_spec : {M : Type 1} → statement M
+ambrothel_text_of_time_spec =
     tie.close
     (tie.spec text-of-time-requires put-whole-text-requires same_length same-length-2 returns)

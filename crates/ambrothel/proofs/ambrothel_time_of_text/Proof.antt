@@ -25,6 +25,6 @@ same_length c = search rules
 returns-2 : tie.Need-returns-2
 returns-2 c = one_written (spelled (ap time_words c.before.before.before.time-of-text.ensures) c.before.before.put-time.ensures) (rw time_seven (omega arith))
 
-pub ambrothel-time-of-text-spec : {M : Type 1} → statement M
-ambrothel-time-of-text-spec =
+pub ambrothel_time_of_text_spec : {M : Type 1} → statement M
+ambrothel_time_of_text_spec =
     tie.close (tie.spec returns time-of-text-requires put-time-requires same_length returns-2)

@@ -54,8 +54,8 @@ add-t13 c = search rules
 returns : tie.Need-returns
 returns c = date-after c.before.before.args.days c.before.before.requires c.before.is-leap.result c.before.is-leap.ensures c.days-of-even-months.result c.days-of-even-months.ensures.0
 
-pub date-after-spec : {M : Type 1} → statement M
-date-after-spec =
+pub date_after_spec : {M : Type 1} → statement M
+date_after_spec =
     tie.close
     (tie.spec
     mul-years

@@ -42,8 +42,8 @@ returns c =
     let months = c.before.days-of-months.ensures.0 in
     (before-added date v long months, added_short date v long months)
 
-pub days-before-spec : {M : Type 1} → statement M
-days-before-spec =
+pub days_before_spec : {M : Type 1} → statement M
+days_before_spec =
     tie.close
     (tie.spec
     sub-years

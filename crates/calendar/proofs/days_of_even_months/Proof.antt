@@ -23,6 +23,6 @@ returns c =
     let e = even-days c.before.before.args.long c.before.before.args.days c.before.missing-days.ensures.0 c.from_on_lem.ensures in
     (e, omega (arith, e, even_most c.before.before.args.long c.before.before.args.days))
 
-pub days-of-even-months-spec : {M : Type 1} → statement M
-days-of-even-months-spec =
+pub days_of_even_months_spec : {M : Type 1} → statement M
+days_of_even_months_spec =
     tie.close (tie.spec missing-days-requires sub-from-on from-on-requires add-result returns)

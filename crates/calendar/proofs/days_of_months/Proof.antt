@@ -23,7 +23,7 @@ sub-result c = months-fit c.before.before.args.long c.before.before.args.count c
 returns : tie.Need-returns
 returns c = months-are c.before.before.args.long c.before.before.args.count c.before.before.requires c.before.missing-days.ensures.0 c.from_on_lem.ensures
 
-pub days-of-months-spec : {M : Type 1} → statement M
-days-of-months-spec =
+pub days_of_months_spec : {M : Type 1} → statement M
+days_of_months_spec =
     tie.close
     (tie.spec missing-days-requires mul-result add-result from-on-requires sub-result returns)

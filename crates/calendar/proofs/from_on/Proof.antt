@@ -13,5 +13,5 @@ returns-2 : tie.Need-returns-2
 unfolding from_on
 returns-2 c = rw (le-ltb c.before.args.number c.before.args.least c.if1.false)
 
-pub from-on-spec : {M : Type 1} → statement M
-from-on-spec = tie.close (tie.spec returns returns-2)
+pub from_on_spec : {M : Type 1} → statement M
+from_on_spec = tie.close (tie.spec returns returns-2)

@@ -36,8 +36,8 @@ returns-5 c =
     let date = c.before.before.before.before.before.before.before.before.before.before.before.before.before.before.args.date in
     by_day date (omega arith) c.before.before.before.before.before.is-leap.ensures c.before.before.before.before.days-of-months.ensures.0 c.before.before.days-of-months2.ensures.0 (omega arith) (omega arith) (omega arith)
 
-pub is-date-spec : {M : Type 1} → statement M
-is-date-spec =
+pub is_date_spec : {M : Type 1} → statement M
+is_date_spec =
     tie.close
     (tie.spec
     returns

@@ -7,5 +7,5 @@ use Rattle.calendar.proofs.is_leap.Tie as tie
 returns : tie.Need-returns
 returns c = every_fourth c.args.year c.requires.0 c.requires.1
 
-pub is-leap-spec : {M : Type 1} → statement M
-is-leap-spec = tie.close (tie.spec returns)
+pub is_leap_spec : {M : Type 1} → statement M
+is_leap_spec = tie.close (tie.spec returns)

@@ -14,5 +14,5 @@ returns-2 : tie.Need-returns-2
 unfolding missing
 returns-2 c = (rw c.if1.false refl, omega arith)
 
-pub missing-days-spec : {M : Type 1} → statement M
-missing-days-spec = tie.close (tie.spec returns returns-2)
+pub missing_days_spec : {M : Type 1} → statement M
+missing_days_spec = tie.close (tie.spec returns returns-2)

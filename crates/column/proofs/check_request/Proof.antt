@@ -54,8 +54,8 @@ returns-8 : tie.Need-returns-8
 unfolding verdict_is
 returns-8 c = good_request _ _ _ _ _ _ (omega arith) (omega arith) (omega arith) (omega arith) (omega arith) (omega arith)
 
-pub check-request-spec : {M : Type 1} → statement M
-check-request-spec =
+pub check_request_spec : {M : Type 1} → statement M
+check_request_spec =
     tie.close
     (tie.spec
     refuse-requires

@@ -81,8 +81,8 @@ returns-4 c =
     let good = told-accepted checked.result _ c.before.before.before.before.before.before.before.enum-told2.given.1 checked.ensures in
     as_replied (by_the_set s.args.p.now s.args.entry s.args.from s.args.to s.args.offset s.args.kind (length s.args.room.now) _ opened good) c.before.before.before.put-gathered.ensures
 
-pub put-column-spec : {M : Type 1} → statement M
-put-column-spec =
+pub put_column_spec : {M : Type 1} → statement M
+put_column_spec =
     tie.close
     (tie.spec
     open-headers-requires

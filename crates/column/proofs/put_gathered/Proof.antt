@@ -53,8 +53,8 @@ returns-2 c =
     let g = c.before.before.before.before.before.before.before.before.before.before.gather in
     values_put _ _ _ _ _ _ _ _ g.ensures s.requires.2 c.before.before.before.before.before.before.enum_told.given.1 _ _ s.requires.3 c.before.before.put-values.ensures
 
-pub put-gathered-spec : {M : Type 1} → statement M
-put-gathered-spec =
+pub put_gathered_spec : {M : Type 1} → statement M
+put_gathered_spec =
     tie.close
     (tie.spec
     gather-requires

@@ -49,8 +49,8 @@ same_length c = rw (c.before.loop.invariant.1, length_sets)
 returns : tie.Need-returns invariant-loop decreases-loop
 returns c = c.before.loop.invariant.1 ∙ rw (take_all c.before.loop.i c.before.before.args.values.now (omega arith))
 
-pub put-values-spec : {M : Type 1} → statement M
-put-values-spec =
+pub put_values_spec : {M : Type 1} → statement M
+put_values_spec =
     tie.close
     (tie.spec
     invariant-loop

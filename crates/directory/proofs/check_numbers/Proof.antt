@@ -102,8 +102,8 @@ returns-5 c =
     (eleven-left args.p.now args.dsds args.entries pre.0 args.reading pre.1.counted n c.before.before.before.before.before.before.if1.false c.before.before.before.before.before.if2.false
     ∙ rw (eleven_by args.p.now args.dsds args.entries pre.0 (λ k. (c.before.before.before.before.before.before.before.shared-slice-known.given k).fits) read.result read.ensures args.reading.counted, positive (number_from read.result) c.before.before.before.is_negative.result c.before.before.before.is_negative.ensures c.before.before.if3.false, eq-eqb read.result.magnitude args.reading.counted c.if4.false))
 
-pub check-numbers-spec : {M : Type 1} → statement M
-check-numbers-spec =
+pub check_numbers_spec : {M : Type 1} → statement M
+check_numbers_spec =
     tie.close
     (tie.spec
     mul-start

@@ -91,8 +91,8 @@ returns-6 c =
     let first-overlapping = c.before.before.before.first-overlapping in
     record { answer = λ ds held e. sym (rw (e, first-outside.ensures.answer ds held e, eq-eqb first-outside.result args.entries c.before.before.before.before.if3.false, first-overlapping.ensures.answer ds held e, eq-eqb first-overlapping.result args.entries c.before.before.if4.false, c.before.first-uncovered.ensures.answer ds held e, eq-eqb c.before.first-uncovered.result args.length c.if5.false)) }
 
-pub check-places-spec : {M : Type 1} → statement M
-check-places-spec =
+pub check_places_spec : {M : Type 1} → statement M
+check_places_spec =
     tie.close
     (tie.spec
     are-joined-requires

@@ -33,7 +33,7 @@ returns-2 c =
     let pre = c.before.before.before.before.requires in
     λ n. c.dsds-check.ensures ∙ first_same _ _ 0 _ (λ k l u. eight _ _ _ k pre) ∙ sym (rw (seven args.p.now args.dsds args.entries pre c.before.before.first-bad-line.result c.before.before.first-bad-line.ensures n, eq-eqb c.before.before.first-bad-line.result args.dsds c.before.if1.false, eight_all args.p.now args.dsds args.entries pre n))
 
-pub check-text-spec : {M : Type 1} → statement M
-check-text-spec =
+pub check_text_spec : {M : Type 1} → statement M
+check_text_spec =
     tie.close
     (tie.spec first-bad-line-requires refuse-requires returns dsds-check-requires returns-2)

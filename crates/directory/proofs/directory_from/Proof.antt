@@ -47,8 +47,8 @@ returns c =
       ranks = ranks j;
     }
 
-pub directory-from-spec : {M : Type 1} → statement M
-directory-from-spec =
+pub directory_from_spec : {M : Type 1} → statement M
+directory_from_spec =
     tie.close
     (tie.spec
     slice-aggregate-put-names

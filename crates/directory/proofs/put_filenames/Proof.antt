@@ -17,5 +17,5 @@ returns c =
     let args = c.before.before.before.before.before.before.args in
     spelled (filenames-are args.p.now args.from args.n) c.before.before.put-texts.ensures
 
-pub put-filenames-spec : {M : Type 1} → statement M
-put-filenames-spec = tie.close (tie.spec put-texts-requires same_length returns)
+pub put_filenames_spec : {M : Type 1} → statement M
+put_filenames_spec = tie.close (tie.spec put-texts-requires same_length returns)

@@ -46,8 +46,8 @@ returns c =
     let put = spelled first c.before.before.put-text2.ensures in
     at_most start.args.width put (part-narrow start.args.p.now start.args.start start.args.width)
 
-pub put-lent-spec : {M : Type 1} → statement M
-put-lent-spec =
+pub put_lent_spec : {M : Type 1} → statement M
+put_lent_spec =
     tie.close
     (tie.spec
     add-end

@@ -17,5 +17,5 @@ returns c =
     let args = c.before.before.before.before.before.before.args in
     spelled (names-are args.p.now args.from args.n) c.before.before.put-texts.ensures
 
-pub put-names-spec : {M : Type 1} → statement M
-put-names-spec = tie.close (tie.spec put-texts-requires same_length returns)
+pub put_names_spec : {M : Type 1} → statement M
+put_names_spec = tie.close (tie.spec put-texts-requires same_length returns)

@@ -83,8 +83,8 @@ returns c =
     let all : l.i ≡ args.n = omega arith in
     all_put (text_at args.p.now args.from args.place args.width) args.width args.n start.requires.most (rw all at l.invariant.1) c.before.before.put-zeros.ensures
 
-pub put-texts-spec : {M : Type 1} → statement M
-put-texts-spec =
+pub put_texts_spec : {M : Type 1} → statement M
+put_texts_spec =
     tie.close
     (tie.spec
     invariant-loop

@@ -173,8 +173,8 @@ returns c =
       all_read b from n (all_held type_of 0 b from n l.i e l.invariant.5) (all_held held_start 0 b from n l.i e l.invariant.6) (all_held held_extent 0 b from n l.i e l.invariant.7) (all_held count_of 0 b from n l.i e l.invariant.8) (all_held record_size_of (pos 0) b from n l.i e l.invariant.9) (all_held held_role 0 b from n l.i e l.invariant.10),
     )
 
-pub read-sets-spec : {M : Type 1} → statement M
-read-sets-spec =
+pub read_sets_spec : {M : Type 1} → statement M
+read_sets_spec =
     tie.close
     (tie.spec
     invariant-loop

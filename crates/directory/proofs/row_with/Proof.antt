@@ -17,5 +17,5 @@ returns-2 c = rw (le-ltb c.before.before.args.row c.before.before.args.i c.befor
 returns-3 : tie.Need-returns-3
 returns-3 c = rw (le-ltb c.before.before.args.row c.before.before.args.i c.before.if1.false, c.if2.false)
 
-pub row-with-spec : {M : Type 1} → statement M
-row-with-spec = tie.close (tie.spec returns add-result returns-2 returns-3)
+pub row_with_spec : {M : Type 1} → statement M
+row_with_spec = tie.close (tie.spec returns add-result returns-2 returns-3)

@@ -16,5 +16,5 @@ returns-2 : tie.Need-returns-2
 unfolding number_from
 returns-2 c = rw (from_zero (number_from c.before.before.args.n), ne_eqb c.before.before.args.n.magnitude 0 c.if1.false) (sym (not-not c.before.before.args.n.minus))
 
-pub is-negative-spec : {M : Type 1} → statement M
-is-negative-spec = tie.close (tie.spec returns returns-2)
+pub is_negative_spec : {M : Type 1} → statement M
+is_negative_spec = tie.close (tie.spec returns returns-2)

@@ -79,8 +79,8 @@ returns-6 c =
     let nadir = limb.before.before.before in
     rw (sym nadir.before.is-called.ensures ∙ nadir.if1.false, sym limb.before.is-called2.ensures ∙ limb.if2.false, sym occultation.before.is-called3.ensures ∙ occultation.if3.false, sym monitoring.before.is-called4.ensures ∙ monitoring.if4.false, sym c.before.is-called5.ensures ∙ c.if5.false)
 
-pub role-of-name-spec : {M : Type 1} → statement M
-role-of-name-spec =
+pub role_of_name_spec : {M : Type 1} → statement M
+role_of_name_spec =
     tie.close
     (tie.spec
     slice-aggregate-is-called

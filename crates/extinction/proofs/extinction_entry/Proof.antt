@@ -37,7 +37,7 @@ returns-3 c =
     let back = to_z-of_z {w = w64} {z = size} (record { sfits = c.before.if22.given }) in
     right_size d _ found.ensures c.before.before.if1.false (sym back ∙ ap (to_z w64) c.if2.false)
 
-pub extinction-entry-spec : {M : Type 1} → statement M
-extinction-entry-spec =
+pub extinction_entry_spec : {M : Type 1} → statement M
+extinction_entry_spec =
     tie.close
     (tie.spec only-extinction-requires returns mul-if2 element-copy-out-if2 returns-2 returns-3)

@@ -23,8 +23,8 @@ is-called-requires c κs = search rules
 returns-2 : tie.Need-returns-2
 returns-2 c = c.is-called.ensures ∙ of_type_M _ _ _ c.before.before.if1.false
 
-pub is-extinction-spec : {M : Type 1} → statement M
-is-extinction-spec =
+pub is_extinction_spec : {M : Type 1} → statement M
+is_extinction_spec =
     tie.close
     (tie.spec
     shared-slice-read-if1

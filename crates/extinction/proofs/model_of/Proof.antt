@@ -16,5 +16,5 @@ returns : tie.Need-returns
 unfolding div model_of quotient of_int of_bits
 returns c = search rules
 
-pub model-of-spec : {M : Type 1} → statement M
-model-of-spec = tie.close (tie.spec mul-result int-to-float-result returns)
+pub model_of_spec : {M : Type 1} → statement M
+model_of_spec = tie.close (tie.spec mul-result int-to-float-result returns)

@@ -28,8 +28,8 @@ returns-2 c = only_doubled _ _ _ (rw sub-zero at c.before.before.before.first-ex
 returns-3 : tie.Need-returns-3
 returns-3 c = only_one _ _ _ (rw sub-zero at c.before.before.before.first-extinction.ensures) c.before.before.if1.false (sym c.before.first-extinction2.ensures ∙ c.if2.false)
 
-pub only-extinction-spec : {M : Type 1} → statement M
-only-extinction-spec =
+pub only_extinction_spec : {M : Type 1} → statement M
+only_extinction_spec =
     tie.close
     (tie.spec
     first-extinction-requires

@@ -72,8 +72,8 @@ returns-4 c =
     c.pixel-in.ensures
     ∙ reads _ _ _ accepts opened.result.directory opened.ensures.1 _ set.extinction-entry.ensures c.before.before.before.if1.false _ c.before.before.record-part.ensures c.before.if2.false
 
-pub pixel-at-spec : {M : Type 1} → statement M
-pixel-at-spec =
+pub pixel_at_spec : {M : Type 1} → statement M
+pixel_at_spec =
     tie.close
     (tie.spec
     open-directory-requires

@@ -37,7 +37,7 @@ returns-3 c =
     let read = c.before.before.before.read-pixel in
     ap is read.ensures ∙ values _ _ _ (omega arith) (λ h. c.if2.false (ap (of_z w8) (ap (λ (x : Pixel). x.quality) read.ensures ∙ h)))
 
-pub pixel-in-spec : {M : Type 1} → statement M
-pixel-in-spec =
+pub pixel_in_spec : {M : Type 1} → statement M
+pixel_in_spec =
     tie.close
     (tie.spec refuse-requires returns read-pixel-requires refuse-requires-2 returns-2 returns-3)

@@ -77,8 +77,8 @@ returns c =
       flag = f.unsigned2.ensures.0 j;
     }
 
-pub read-pixel-spec : {M : Type 1} → statement M
-read-pixel-spec =
+pub read_pixel_spec : {M : Type 1} → statement M
+read_pixel_spec =
     tie.close
     (tie.spec
     time-at-requires

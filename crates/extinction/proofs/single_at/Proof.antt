@@ -22,5 +22,5 @@ returns c =
     let v = c.single.ensures ∙ ap (of_bits binary32) e in
     λ j. record { value = v j; bits = e j }
 
-pub single-at-spec : {M : Type 1} → statement M
-single-at-spec = tie.close (tie.spec unsigned-requires cast-bits single-requires returns)
+pub single_at_spec : {M : Type 1} → statement M
+single_at_spec = tie.close (tie.spec unsigned-requires cast-bits single-requires returns)

@@ -32,8 +32,8 @@ returns-2 c =
     let known = c.before.before.before.before.before.answer.given in
     spelled (the_model c.before.before.before.before.before.before.before.before.args.answer known.0.0 known.1) c.before.before.put-double2.ensures
 
-pub put-model-spec : {M : Type 1} → statement M
-put-model-spec =
+pub put_model_spec : {M : Type 1} → statement M
+put_model_spec =
     tie.close
     (tie.spec
     enum_told

@@ -57,8 +57,8 @@ returns-2 c =
     let put = then c.before.before.before.before.before.before.before.put-words2.ensures c.before.before.put-words3.ensures in
     spelled (ap (λ (l : List ℕ). 0 ∷ 0 ∷ 0 ∷ l) c.before.before.before.before.before.before.before.before.before.before.value-words.ensures ∙ pixel-words c.before.before.before.before.before.before.before.before.before.before.before.before.before.before.before.args.answer known.0.0 known.1) (at_most 11 put (omega (arith, put.narrow, slice-aggregate-put-words-3 c.before.before.before)))
 
-pub put-pixel-spec : {M : Type 1} → statement M
-put-pixel-spec =
+pub put_pixel_spec : {M : Type 1} → statement M
+put_pixel_spec =
     tie.close
     (tie.spec
     enum-known-answer

@@ -54,8 +54,8 @@ returns c =
     let quality = q.word-of2.ensures ∙ ap word (to_z-of_z {w = w64} (cast-word-of-2 q.before) ∙ to_z-of_z {w = w8} (record { sfits = q.before.struct-told2.given.1.0.1 })) in
     values_are pixel _ _ days quality
 
-pub value-words-spec : {M : Type 1} → statement M
-value-words-spec =
+pub value_words_spec : {M : Type 1} → statement M
+value_words_spec =
     tie.close
     (tie.spec
     cast-word-of

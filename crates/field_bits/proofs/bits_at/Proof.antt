@@ -64,8 +64,8 @@ returns-5 c =
     let u = c.unsigned5.ensures in
     u.0 ∙ bits_four _ _ _ (above_4 _ s.requires.0 n.0.0.0.1 n.0.0.1 n.0.1 n.1) s.requires.1 (rw (sym u.0) u.1)
 
-pub bits-at-spec : {M : Type 1} → statement M
-bits-at-spec =
+pub bits_at_spec : {M : Type 1} → statement M
+bits_at_spec =
     tie.close
     (tie.spec
     unsigned-requires

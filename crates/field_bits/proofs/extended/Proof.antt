@@ -30,8 +30,8 @@ cast-result-2 c = search rules
 returns-2 : tie.Need-returns-2
 returns-2 c = minus _ _ (omega arith)
 
-pub extended-spec : {M : Type 1} → statement M
-extended-spec =
+pub extended_spec : {M : Type 1} → statement M
+extended_spec =
     tie.close
     (tie.spec
     cast-result

@@ -77,8 +77,8 @@ returns c =
     let e : l.k ≡ c.before.before.before.before.args.count = omega arith in
     l.invariant.1 ∙ rw e
 
-pub store-fields-spec : {M : Type 1} → statement M
-store-fields-spec =
+pub store_fields_spec : {M : Type 1} → statement M
+store_fields_spec =
     tie.close
     (tie.spec
     invariant-loop

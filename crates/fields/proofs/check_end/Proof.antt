@@ -20,5 +20,5 @@ returns-2 : tie.Need-returns-2
 unfolding ends_in
 returns-2 c = c.refuse.ensures ∙ sym (rw (sym c.before.before.ends-in.ensures ∙ c.before.if1.false))
 
-pub check-end-spec : {M : Type 1} → statement M
-check-end-spec = tie.close (tie.spec ends-in-requires returns refuse-requires returns-2)
+pub check_end_spec : {M : Type 1} → statement M
+check_end_spec = tie.close (tie.spec ends-in-requires returns refuse-requires returns-2)

@@ -28,6 +28,6 @@ refuse-requires c κs = search rules
 returns-2 : tie.Need-returns-2
 returns-2 c = c.refuse.ensures ∙ sym (rw (tested-here c.before.before ∙ c.before.if1.false))
 
-pub check-limit-spec : {M : Type 1} → statement M
-check-limit-spec =
+pub check_limit_spec : {M : Type 1} → statement M
+check_limit_spec =
     tie.close (tie.spec signed-requires in-limits-requires returns refuse-requires returns-2)

@@ -17,5 +17,5 @@ returns : tie.Need-returns
 unfolding value_at field_is
 returns c = let e = c.before.unsigned.ensures.0 in ap₂ double (c.double.ensures ∙ ap (of_bits binary64) e) e
 
-pub double-at-spec : {M : Type 1} → statement M
-double-at-spec = tie.close (tie.spec unsigned-requires double-requires returns)
+pub double_at_spec : {M : Type 1} → statement M
+double_at_spec = tie.close (tie.spec unsigned-requires double-requires returns)

@@ -9,5 +9,5 @@ returns c = let a = c.before.args in too_short a.length a.offset a.width c.if1.t
 returns-2 : tie.Need-returns-2
 returns-2 c = let a = c.before.args in ends a.length a.offset a.width c.if1.false
 
-pub ends-in-spec : {M : Type 1} → statement M
-ends-in-spec = tie.close (tie.spec returns returns-2)
+pub ends_in_spec : {M : Type 1} → statement M
+ends_in_spec = tie.close (tie.spec returns returns-2)

@@ -51,8 +51,8 @@ returns-3 c =
     ap is c.value-at.ensures
     ∙ all_there a.bytes.now a.entry a.offset a.kind (rw u at e.before.if1.false) (rw u at (sym e.ends-in.ensures ∙ not-false _ c.before.if2.false))
 
-pub field-in-spec : {M : Type 1} → statement M
-field-in-spec =
+pub field_in_spec : {M : Type 1} → statement M
+field_in_spec =
     tie.close
     (tie.spec
     width-of-requires

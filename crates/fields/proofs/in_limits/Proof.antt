@@ -29,5 +29,5 @@ returns-2 c =
     let n = to_z-of_z (sub-if1 c.before) ∙ minus a.most (omega arith) in
     ap₂ le_z v (to_z_pos w64 {n = a.most} (omega arith)) ∙ high_enough a.most a.v (sym (ap₂ lt_z v n) ∙ c.if1.false)
 
-pub in-limits-spec : {M : Type 1} → statement M
-in-limits-spec = tie.close (tie.spec cast-limit sub-if1 returns returns-2)
+pub in_limits_spec : {M : Type 1} → statement M
+in_limits_spec = tie.close (tie.spec cast-limit sub-if1 returns returns-2)

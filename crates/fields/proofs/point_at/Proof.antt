@@ -45,8 +45,8 @@ returns c =
     let up = c.metres.ensures ∙ ap metres d.before.unsigned.ensures.0 in
     λ j. is (record { latitude = north j; longitude = east j; altitude = up j })
 
-pub point-at-spec : {M : Type 1} → statement M
-point-at-spec =
+pub point_at_spec : {M : Type 1} → statement M
+point_at_spec =
     tie.close
     (tie.spec
     signed-requires

@@ -104,8 +104,8 @@ returns-6 c =
     (accepts _ _ north.before.before.check-limit.ensures north.enum-told4.given.1)
     (accepts _ _ east.before.before.check-limit2.ensures east.enum-told5.given.1)
 
-pub point-in-spec : {M : Type 1} → statement M
-point-in-spec =
+pub point_in_spec : {M : Type 1} → statement M
+point_in_spec =
     tie.close
     (tie.spec
     check-end-requires

@@ -8,5 +8,5 @@ returns : tie.Need-returns
 unfolding field_answer_is
 returns c = refl
 
-pub refused-field-spec : {M : Type 1} → statement M
-refused-field-spec = tie.close (tie.spec returns)
+pub refused_field_spec : {M : Type 1} → statement M
+refused_field_spec = tie.close (tie.spec returns)

@@ -20,5 +20,5 @@ returns : tie.Need-returns
 unfolding value_at field_is
 returns c = let e = c.before.unsigned.ensures.0 in ap₂ single (c.single.ensures ∙ ap (of_bits binary32) e) e
 
-pub single-at-spec : {M : Type 1} → statement M
-single-at-spec = tie.close (tie.spec unsigned-requires cast-bits single-requires returns)
+pub single_at_spec : {M : Type 1} → statement M
+single_at_spec = tie.close (tie.spec unsigned-requires cast-bits single-requires returns)

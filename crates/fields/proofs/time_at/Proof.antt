@@ -37,8 +37,8 @@ returns c =
     let d = to_z-of_z (cast-t7 c) ∙ to_z-of_z (sfits_of s.type-inv) ∙ s.ensures.0 in
     λ j. record { days = d j; seconds = c.before.unsigned.ensures.0 j; microseconds = c.unsigned2.ensures.0 j }
 
-pub time-at-spec : {M : Type 1} → statement M
-time-at-spec =
+pub time_at_spec : {M : Type 1} → statement M
+time_at_spec =
     tie.close
     (tie.spec
     signed-requires

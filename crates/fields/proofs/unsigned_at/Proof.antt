@@ -23,5 +23,5 @@ cast-result c =
 returns : tie.Need-returns
 returns c = to_z_pos w64 (cast-result c).sfits ∙ ap pos c.unsigned.ensures.0
 
-pub unsigned-at-spec : {M : Type 1} → statement M
-unsigned-at-spec = tie.close (tie.spec unsigned-requires cast-result returns)
+pub unsigned_at_spec : {M : Type 1} → statement M
+unsigned_at_spec = tie.close (tie.spec unsigned-requires cast-result returns)

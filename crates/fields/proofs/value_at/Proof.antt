@@ -71,8 +71,8 @@ returns-5 c =
     let n = c.before.match.rest in
     rw (time-kind s.args.kind (rw s.requires.0 at s.requires.1) n.0.0.0.1 n.0.0.1 n.0.1 n.1) (ap (λ (t : Time). time t.days t.seconds t.microseconds) c.time-at.ensures)
 
-pub value-at-spec : {M : Type 1} → statement M
-value-at-spec =
+pub value_at_spec : {M : Type 1} → statement M
+value_at_spec =
     tie.close
     (tie.spec
     signed-requires

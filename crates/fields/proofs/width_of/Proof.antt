@@ -17,5 +17,5 @@ returns c = widths c.before.args.kind
 returns-2 : tie.Need-returns-2
 returns-2 c = sym (past _ c.if1.false)
 
-pub width-of-spec : {M : Type 1} → statement M
-width-of-spec = tie.close (tie.spec mul-result array-read-result returns returns-2)
+pub width_of_spec : {M : Type 1} → statement M
+width_of_spec = tie.close (tie.spec mul-result array-read-result returns returns-2)

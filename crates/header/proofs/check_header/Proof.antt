@@ -76,8 +76,8 @@ returns-4 c =
     let four = told-accepted _ _ c.before.enum-told6.given.1 c.before.before.before.total-rules.ensures in
     by_sizes _ _ one three _ four c.size-rules.ensures
 
-pub check-header-spec : {M : Type 1} → statement M
-check-header-spec =
+pub check_header_spec : {M : Type 1} → statement M
+check_header_spec =
     tie.close
     (tie.spec
     length-rules-requires

@@ -20,5 +20,5 @@ mul-result c = record { fits = omega (arith, held-most c.before.before.before.ar
 returns-2 : tie.Need-returns-2
 returns-2 c = rw (sym c.before.before.before.is_Within.ensures ∙ not-false _ c.before.before.if1.false)
 
-pub dsds-fit-spec : {M : Type 1} → statement M
-dsds-fit-spec = tie.close (tie.spec is-within-requires returns mul-result returns-2)
+pub dsds_fit_spec : {M : Type 1} → statement M
+dsds_fit_spec = tie.close (tie.spec is-within-requires returns mul-result returns-2)

@@ -20,6 +20,6 @@ returns-2 : tie.Need-returns-2
 unfolding verdict_is
 returns-2 c = sym (c.before.main-header-check.ensures ∙ rw (eq-eqb _ _ c.if1.false))
 
-pub layout-rule-spec : {M : Type 1} → statement M
-layout-rule-spec =
+pub layout_rule_spec : {M : Type 1} → statement M
+layout_rule_spec =
     tie.close (tie.spec main-header-check-requires refuse-requires returns returns-2)

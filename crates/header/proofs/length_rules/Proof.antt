@@ -27,6 +27,6 @@ returns-3 : tie.Need-returns-3
 unfolding verdict_is length_rules rule1 rule2
 returns-3 c = rw (le-leb _ _ c.before.if1.false, le-leb _ _ c.if2.false)
 
-pub length-rules-spec : {M : Type 1} → statement M
-length-rules-spec =
+pub length_rules_spec : {M : Type 1} → statement M
+length_rules_spec =
     tie.close (tie.spec refuse-requires returns refuse-requires-2 returns-2 returns-3)

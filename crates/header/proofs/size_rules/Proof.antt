@@ -88,8 +88,8 @@ returns-4 c =
       nothing = λ bad. absurd (bad (sym good));
     }
 
-pub size-rules-spec : {M : Type 1} → statement M
-size-rules-spec =
+pub size_rules_spec : {M : Type 1} → statement M
+size_rules_spec =
     tie.close
     (tie.spec
     number-at-requires

@@ -20,5 +20,5 @@ add-result c = record { fits = omega (arith, held-most c.before.before.before.ar
 returns-2 : tie.Need-returns-2
 returns-2 c = rw (sym c.before.before.is_Within.ensures ∙ not-false _ c.before.if1.false)
 
-pub sph-fits-spec : {M : Type 1} → statement M
-sph-fits-spec = tie.close (tie.spec is-within-requires returns add-result returns-2)
+pub sph_fits_spec : {M : Type 1} → statement M
+sph_fits_spec = tie.close (tie.spec is-within-requires returns add-result returns-2)

@@ -44,8 +44,8 @@ returns-3 c =
     let fits : (number_in c.before.before.before.before.before.before.args.p.now 1075 21).magnitude ≤ 9223372036854775807 = omega (arith, ap (λ (m : Number). m.magnitude) number_at) in
     total_same _ _ fits (sym (c.before.whole.ensures ∙ ap whole_in number_at) ∙ word_same c.before.whole.result _ c.before.whole.type-inv (omega arith) c.if2.false)
 
-pub total-rules-spec : {M : Type 1} → statement M
-total-rules-spec =
+pub total_rules_spec : {M : Type 1} → statement M
+total_rules_spec =
     tie.close
     (tie.spec
     number-at-requires

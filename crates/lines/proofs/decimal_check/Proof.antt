@@ -29,8 +29,8 @@ first-not-digit-requires c κs = search rules
 returns-3 : tie.Need-returns-3
 returns-3 c = decimal-good _ _ _ _ _ c.before.before.before.before.before.before.requires.0 c.before.before.before.before.whole-check.ensures c.before.before.before.if1.false c.before.if2.false _ (c.first-not-digit.ensures ∙ run_bad digit _ _ _)
 
-pub decimal-check-spec : {M : Type 1} → statement M
-decimal-check-spec =
+pub decimal_check_spec : {M : Type 1} → statement M
+decimal_check_spec =
     tie.close
     (tie.spec
     whole-check-requires

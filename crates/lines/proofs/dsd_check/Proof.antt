@@ -35,8 +35,8 @@ dsd-lines-requires c κs = search rules
 returns-3 : tie.Need-returns-3
 returns-3 c = bad-dsd _ _ _ c.before.before.before.if1.false c.dsd-lines.ensures
 
-pub dsd-check-spec : {M : Type 1} → statement M
-dsd-check-spec =
+pub dsd_check_spec : {M : Type 1} → statement M
+dsd_check_spec =
     tie.close
     (tie.spec
     shared-slice-read-if1

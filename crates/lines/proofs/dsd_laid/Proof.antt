@@ -46,8 +46,8 @@ returns-4 c = λ h.
     let rest = stand _ _ _ _ _ 256 280 _ c.laid-in3.ensures h in
     dsd-laid _ _ _ _ _ type.before.before.before.before.before.before.before.requires.1 (stand_on (omega arith) to-128 (stand_on (omega arith) to-256 rest)) (sym type.before.is-type.ensures ∙ not-false _ type.if1.false)
 
-pub dsd-laid-spec : {M : Type 1} → statement M
-dsd-laid-spec =
+pub dsd_laid_spec : {M : Type 1} → statement M
+dsd_laid_spec =
     tie.close
     (tie.spec
     add-is-type

@@ -57,8 +57,8 @@ returns c =
     let found = table_place _ _ _ _ _ _ _ c.lines-check.ensures dsd (record { begin = refl; wide = refl; laid = refl }) in
     dsd-place entry.args.p.now entry.args.at _ _ refl found
 
-pub dsd-lines-spec : {M : Type 1} → statement M
-dsd-lines-spec =
+pub dsd_lines_spec : {M : Type 1} → statement M
+dsd_lines_spec =
     tie.close
     (tie.spec
     add-end

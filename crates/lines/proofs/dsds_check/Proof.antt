@@ -80,8 +80,8 @@ returns-3 : tie.Need-returns-3 invariant-loop decreases-loop
 unfolding verdict_is
 returns-3 c = sym (left_end _ _ _ c.before.loop.invariant.1 (omega arith))
 
-pub dsds-check-spec : {M : Type 1} → statement M
-dsds-check-spec =
+pub dsds_check_spec : {M : Type 1} → statement M
+dsds_check_spec =
     tie.close
     (tie.spec
     invariant-loop

@@ -15,5 +15,5 @@ returns-2 : tie.Need-returns-2
 unfolding fits
 returns-2 c = rw (ne_eqb _ 48 c.if1.false) (sym (or_false _))
 
-pub is-flag-spec : {M : Type 1} → statement M
-is-flag-spec = tie.close (tie.spec returns returns-2)
+pub is_flag_spec : {M : Type 1} → statement M
+is_flag_spec = tie.close (tie.spec returns returns-2)

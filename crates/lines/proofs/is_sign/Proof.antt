@@ -13,5 +13,5 @@ returns-2 : tie.Need-returns-2
 unfolding fits
 returns-2 c = simp (ne_eqb _ _ c.if1.false)
 
-pub is-sign-spec : {M : Type 1} → statement M
-is-sign-spec = tie.close (tie.spec returns returns-2)
+pub is_sign_spec : {M : Type 1} → statement M
+is_sign_spec = tie.close (tie.spec returns returns-2)

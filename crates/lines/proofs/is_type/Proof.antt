@@ -23,5 +23,5 @@ returns-4 : tie.Need-returns-4
 unfolding fits
 returns-4 c = rw (ne_eqb _ 77 c.before.before.if1.false, ne_eqb _ 65 c.before.if2.false, ne_eqb _ 71 c.if3.false) (sym (or_false _))
 
-pub is-type-spec : {M : Type 1} → statement M
-is-type-spec = tie.close (tie.spec returns returns-2 returns-3 returns-4)
+pub is_type_spec : {M : Type 1} → statement M
+is_type_spec = tie.close (tie.spec returns returns-2 returns-3 returns-4)

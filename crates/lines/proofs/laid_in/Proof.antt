@@ -51,8 +51,8 @@ loop-again c = let inv = c.before.before.before.before.before.before.loop.invari
 returns : tie.Need-returns invariant-loop decreases-loop
 returns c = let inv = c.before.loop.invariant in all_end _ _ _ _ _ (omega (arith, inv.1)) (omega (arith, inv.1)) inv.2
 
-pub laid-in-spec : {M : Type 1} → statement M
-laid-in-spec =
+pub laid_in_spec : {M : Type 1} → statement M
+laid_in_spec =
     tie.close
     (tie.spec
     invariant-loop

@@ -51,8 +51,8 @@ returns-2 : tie.Need-returns-2 invariant-loop decreases-loop
 unfolding bad_by_table table_laid
 returns-2 c = turn_end _ _ _ _ _ _ c.before.before.loop.invariant.1 (omega arith) _ c.literal-span.ensures
 
-pub lines-check-spec : {M : Type 1} → statement M
-lines-check-spec =
+pub lines_check_spec : {M : Type 1} → statement M
+lines_check_spec =
     tie.close
     (tie.spec
     invariant-loop

@@ -40,8 +40,8 @@ loop-again c = (omega arith, c.before.before.before.before.loop.invariant.1 ∙ 
 returns-2 : tie.Need-returns-2 invariant-loop decreases-loop
 returns-2 c = sym (c.before.loop.invariant.1 ∙ span_end _ _ _ _ (omega arith) (omega arith))
 
-pub literal-span-spec : {M : Type 1} → statement M
-literal-span-spec =
+pub literal_span_spec : {M : Type 1} → statement M
+literal_span_spec =
     tie.close
     (tie.spec
     invariant-loop

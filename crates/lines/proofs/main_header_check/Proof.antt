@@ -22,6 +22,6 @@ returns-2 : tie.Need-returns-2
 unfolding layout mph line_classes value_classes
 returns-2 c = header_answer 3 128 (layout mph) _ 0 _ size_of_mph c.main-header-lines.ensures refl c.before.before.before.before.requires
 
-pub main-header-check-spec : {M : Type 1} → statement M
-main-header-check-spec =
+pub main_header_check_spec : {M : Type 1} → statement M
+main_header_check_spec =
     tie.close (tie.spec main-header-laid-requires returns main-header-lines-requires returns-2)

@@ -101,8 +101,8 @@ returns-5 c = λ h.
     let rest = stand _ _ _ _ 0 1024 1247 _ c.laid-in5.ensures h in
     strict-laid (layout mph) _ _ _ _ 0 tt (stand_on (omega arith) to-256 (stand_on (omega arith) to-512 (stand_on (omega arith) to-768 (stand_on (omega arith) to-1024 rest))))
 
-pub main-header-laid-spec : {M : Type 1} → statement M
-main-header-laid-spec =
+pub main_header_laid_spec : {M : Type 1} → statement M
+main_header_laid_spec =
     tie.close
     (tie.spec
     slice-aggregate-laid-in

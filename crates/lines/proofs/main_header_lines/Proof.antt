@@ -33,8 +33,8 @@ returns : tie.Need-returns
 unfolding table_laid rows_laid row_laid value_laid row_of layout mph line_classes value_classes part starts_of width_in value_width
 returns c = table_place _ _ _ _ _ _ _ c.lines-check.ensures mph (record { begin = refl; wide = refl; laid = refl })
 
-pub main-header-lines-spec : {M : Type 1} → statement M
-main-header-lines-spec =
+pub main_header_lines_spec : {M : Type 1} → statement M
+main_header_lines_spec =
     tie.close
     (tie.spec
     slice-aggregate-lines-check

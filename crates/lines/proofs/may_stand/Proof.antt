@@ -16,5 +16,5 @@ returns : tie.Need-returns
 unfolding may_stand
 returns c = rw (c.before.lower.ensures, c.higher.ensures) refl
 
-pub may-stand-spec : {M : Type 1} → statement M
-may-stand-spec = tie.close (tie.spec lower-requires higher-requires returns)
+pub may_stand_spec : {M : Type 1} → statement M
+may_stand_spec = tie.close (tie.spec lower-requires higher-requires returns)

@@ -44,8 +44,8 @@ returns c =
       width = c.wide82.ensures.0 j;
     }
 
-pub row-at-spec : {M : Type 1} → statement M
-row-at-spec =
+pub row_at_spec : {M : Type 1} → statement M
+row_at_spec =
     tie.close
     (tie.spec
     mul-wide16

@@ -32,8 +32,8 @@ returns-2 c =
     let entry = c.before.before.before.before.before.before in
     row_value entry.args.template.now entry.args.from entry.args.row entry.requires.0 _ _ c.before.before.before.literal-span.ensures c.before.before.if1.false _ c.value-check.ensures
 
-pub row-check-spec : {M : Type 1} → statement M
-row-check-spec =
+pub row_check_spec : {M : Type 1} → statement M
+row_check_spec =
     tie.close
     (tie.spec
     literal-span-requires

@@ -26,8 +26,8 @@ add-result c = search rules
 returns-3 : tie.Need-returns-3
 returns-3 c = spare-whole _ _ _ _ c.before.before.before.first-not-blank.ensures c.before.before.if1.false c.if2.false
 
-pub spare-check-spec : {M : Type 1} → statement M
-spare-check-spec =
+pub spare_check_spec : {M : Type 1} → statement M
+spare_check_spec =
     tie.close
     (tie.spec
     add-end

@@ -108,8 +108,8 @@ returns-9 c =
     let not-type = c.before.before.before.if5.false in
     decimal_by_end _ _ _ _ _ 6 (millionths_laid entry.args.kind (entry.args.to - entry.args.from) not-text not-spare not_flag not-type c.before.before.if7.false c.before.if8.false) (omega (arith, millionths_width entry.args.kind (entry.args.to - entry.args.from) not-text not-spare not_flag not-type c.before.before.if7.false c.before.if8.false entry.requires.2)) c.decimal-check2.ensures
 
-pub value-check-spec : {M : Type 1} → statement M
-value-check-spec =
+pub value_check_spec : {M : Type 1} → statement M
+value_check_spec =
     tie.close
     (tie.spec
     first-not-plain-requires

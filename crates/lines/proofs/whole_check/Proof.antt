@@ -27,8 +27,8 @@ first-not-digit-requires c κs = search rules
 returns-2 : tie.Need-returns-2
 returns-2 c = whole-good _ _ _ _ (sym c.before.before.is-sign.ensures ∙ not-false _ c.before.if1.false) (c.first-not-digit.ensures ∙ run_bad digit _ _ _)
 
-pub whole-check-spec : {M : Type 1} → statement M
-whole-check-spec =
+pub whole_check_spec : {M : Type 1} → statement M
+whole_check_spec =
     tie.close
     (tie.spec
     shared-slice-read-is-sign

@@ -30,8 +30,8 @@ returns c = search rules
 returns-2 : tie.Need-returns-2
 returns-2 c = search rules
 
-pub write-listing-spec : {M : Type 1} → statement M
-write-listing-spec =
+pub write_listing_spec : {M : Type 1} → statement M
+write_listing_spec =
     tie.close
     (tie.spec
     slice-aggregate-list-product

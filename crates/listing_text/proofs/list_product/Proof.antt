@@ -29,8 +29,8 @@ returns-2 c =
     let opened = c.before.before.before.before.before.open-directory in
     rw (listed c.before.before.before.before.before.before.before.before.before.args.p.now c.before.before.before.before.before.before.if1.false _ _ opened.ensures.0 opened.ensures.1) c.before.before.write-listing.ensures
 
-pub list-product-spec : {M : Type 1} → statement M
-list-product-spec =
+pub list_product_spec : {M : Type 1} → statement M
+list_product_spec =
     tie.close
     (tie.spec
     write-longer-requires

@@ -33,8 +33,8 @@ returns c =
     let listed = then c.before.before.before.before.before.before.before.put_entries.ensures c.before.before.put-text2.ensures in
     spelled (accepted-lines a.size a.directory) (then c.before.before.before.before.before.before.before.before.before.before.before.before.before.before.before.put-text.ensures (then c.before.before.before.before.before.before.before.before.before.before.before.put-number.ensures listed))
 
-pub put-accepted-spec : {M : Type 1} → statement M
-put-accepted-spec =
+pub put_accepted_spec : {M : Type 1} → statement M
+put_accepted_spec =
     tie.close
     (tie.spec
     slice-aggregate-put-text

@@ -91,8 +91,8 @@ returns c =
     let e : c.before.loop.i ≡ d.entries = omega arith in
     spelled (ap (entry_texts d) e) (at_most 20992 put (omega (arith, put.narrow)))
 
-pub put-entries-spec : {M : Type 1} → statement M
-put-entries-spec =
+pub put_entries_spec : {M : Type 1} → statement M
+put_entries_spec =
     tie.close
     (tie.spec
     invariant-loop

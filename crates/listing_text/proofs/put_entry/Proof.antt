@@ -44,8 +44,8 @@ returns-2 c =
     let put = then c.before.before.before.before.before.before.before.before.before.before.before.before.put-text.ensures (then c.before.before.before.before.before.before.before.before.put-number.ensures c.before.before.put-values.ensures) in
     spelled (named-line a.names.now a.entry c.before.before.before.before.if1.false) put
 
-pub put-entry-spec : {M : Type 1} → statement M
-put-entry-spec =
+pub put_entry_spec : {M : Type 1} → statement M
+put_entry_spec =
     tie.close
     (tie.spec
     slice-aggregate-put-text

@@ -41,8 +41,8 @@ returns c =
     (spelled (name_lent a.names.now a.entry kept.result kept.ensures.0 kept.ensures.1) (then c.before.before.before.before.before.before.put-text.ensures c.before.before.put_byte.ensures))
     (name_short a.names.now a.entry kept.result kept.ensures.0 kept.ensures.1)
 
-pub put-name-spec : {M : Type 1} → statement M
-put-name-spec =
+pub put_name_spec : {M : Type 1} → statement M
+put_name_spec =
     tie.close
     (tie.spec
     mul-start

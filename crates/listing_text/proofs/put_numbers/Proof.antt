@@ -37,8 +37,8 @@ returns c =
     let sized = then c.before.before.before.before.before.before.before.before.before.before.before.before.before.before.before.put-number2.ensures counted in
     spelled (numbers-line [] entry (to_z w64 (of_z w64 entry.record_size)) back) (then c.before.before.before.before.before.before.before.before.before.before.before.before.before.before.before.before.before.before.before.put-number.ensures sized)
 
-pub put-numbers-spec : {M : Type 1} → statement M
-put-numbers-spec =
+pub put_numbers_spec : {M : Type 1} → statement M
+put_numbers_spec =
     tie.close
     (tie.spec
     put-number-requires

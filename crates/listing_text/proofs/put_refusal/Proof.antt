@@ -33,8 +33,8 @@ returns c =
     let placed = then c.before.before.before.before.before.before.put-number2.ensures c.before.before.put-number3.ensures in
     spelled (refusal-line a.number a.place a.entry) (then c.before.before.before.before.before.before.before.before.before.before.before.before.before.before.before.put-text.ensures (then c.before.before.before.before.before.before.before.before.before.before.put-number.ensures placed))
 
-pub put-refusal-spec : {M : Type 1} → statement M
-put-refusal-spec =
+pub put_refusal_spec : {M : Type 1} → statement M
+put_refusal_spec =
     tie.close
     (tie.spec
     slice-aggregate-put-text

@@ -27,8 +27,8 @@ returns c =
     let named = then c.before.before.before.before.before.before.put-name.ensures c.before.before.put-numbers.ensures in
     spelled (values_line args.names.now args.entry) (then c.before.before.before.before.before.before.before.before.before.before.before.before.before.before.put_byte.ensures (then c.before.before.before.before.before.before.before.before.before.before.put-byte2.ensures named))
 
-pub put-values-spec : {M : Type 1} → statement M
-put-values-spec =
+pub put_values_spec : {M : Type 1} → statement M
+put_values_spec =
     tie.close
     (tie.spec
     put-byte-requires

@@ -38,8 +38,8 @@ returns-2 c =
     let v = c.before.before.before.before.before.verdict.given in
     from_start 32768 (spelled (listing-refused a.verdict a.size a.directory v.0.0 v.1) c.before.before.put-refusal.ensures) (omega arith) start.requires.0
 
-pub write-listing-spec : {M : Type 1} → statement M
-write-listing-spec =
+pub write_listing_spec : {M : Type 1} → statement M
+write_listing_spec =
     tie.close
     (tie.spec
     enum_told

@@ -21,6 +21,6 @@ returns : tie.Need-returns
 unfolding longer_text line_of
 returns c = from_start 32768 c.before.before.put-text.ensures (omega arith) c.before.before.before.before.before.before.requires
 
-pub write-longer-spec : {M : Type 1} → statement M
-write-longer-spec =
+pub write_longer_spec : {M : Type 1} → statement M
+write_longer_spec =
     tie.close (tie.spec slice-aggregate-put-text put-text-requires same_length returns)

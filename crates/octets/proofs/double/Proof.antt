@@ -14,5 +14,5 @@ returns c = made binary64 _ c.if1.true
 returns-2 : tie.Need-returns-2
 returns-2 c = search rules
 
-pub double-spec : {M : Type 1} → statement M
-double-spec = tie.close (tie.spec float-from-bits-result returns returns-2)
+pub double_spec : {M : Type 1} → statement M
+double_spec = tie.close (tie.spec float-from-bits-result returns returns-2)

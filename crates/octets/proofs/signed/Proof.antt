@@ -37,5 +37,5 @@ returns c =
     rw (to_z-of_z (sfits_of c.twos-complement.type-inv))
     (c.twos-complement.ensures.0 ∙ ap₂ twos_complement e c.before.unsigned.ensures.0, m)
 
-pub signed-spec : {M : Type 1} → statement M
-signed-spec = tie.close (tie.spec mul-half sub-half shl-half unsigned-requires twos-complement-requires returns)
+pub signed_spec : {M : Type 1} → statement M
+signed_spec = tie.close (tie.spec mul-half sub-half shl-half unsigned-requires twos-complement-requires returns)

@@ -14,5 +14,5 @@ returns c = made binary32 _ c.if1.true
 returns-2 : tie.Need-returns-2
 returns-2 c = search rules
 
-pub single-spec : {M : Type 1} → statement M
-single-spec = tie.close (tie.spec float-from-bits-result returns returns-2)
+pub single_spec : {M : Type 1} → statement M
+single_spec = tie.close (tie.spec float-from-bits-result returns returns-2)

@@ -39,8 +39,8 @@ returns-2 c =
     let e = to_z-of_z (sub-result-3 c) ∙ less_one (2 * c.before.args.half - 1 - c.before.args.v) (omega arith) in
     (rw (le-ltb _ _ c.if1.false) e, rw e (omega arith))
 
-pub twos-complement-spec : {M : Type 1} → statement M
-twos-complement-spec =
+pub twos_complement_spec : {M : Type 1} → statement M
+twos_complement_spec =
     tie.close
     (tie.spec
     cast-result

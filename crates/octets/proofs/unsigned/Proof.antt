@@ -45,8 +45,8 @@ returns c =
     let e : l.i ≡ c.before.before.before.args.width = omega arith in
     (rw e at l.invariant.2, rw e at l.invariant.1)
 
-pub unsigned-spec : {M : Type 1} → statement M
-unsigned-spec =
+pub unsigned_spec : {M : Type 1} → statement M
+unsigned_spec =
     tie.close
     (tie.spec
     invariant-loop

@@ -31,8 +31,8 @@ check-text-requires c κs = dsds_of (headers _ _ _ c.before.before.check-header.
 returns-2 : tie.Need-returns-2
 returns-2 c = text_checked _ _ _ c.before.before.before.check-header.ensures c.before.enum-told2.given.1 c.before.before.before.before.before.requires _ (c.check-text.ensures c.before.before.before.before.before.args.length)
 
-pub check-front-spec : {M : Type 1} → statement M
-check-front-spec =
+pub check_front_spec : {M : Type 1} → statement M
+check_front_spec =
     tie.close
     (tie.spec
     check-header-requires

@@ -48,8 +48,8 @@ returns-2 c =
     let read = c.before.before.before.read-sets in
     sets_checked args.p.now args.length front.result front.ensures good read.result read.ensures.0 _ read.ensures.1 _ c.check-sets.ensures
 
-pub check-headers-spec : {M : Type 1} → statement M
-check-headers-spec =
+pub check_headers_spec : {M : Type 1} → statement M
+check_headers_spec =
     tie.close
     (tie.spec
     check-front-requires

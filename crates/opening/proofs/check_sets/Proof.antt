@@ -38,8 +38,8 @@ returns-2 c =
     let numbers = c.before.before.before.check-numbers in
     places_last args.p.now args.length args.front pre.0 args.reading _ _ pre.1 numbers.result c.before.enum-told2.given.1 (numbers.ensures args.length) _ c.check-places.ensures
 
-pub check-sets-spec : {M : Type 1} → statement M
-check-sets-spec =
+pub check_sets_spec : {M : Type 1} → statement M
+check_sets_spec =
     tie.close
     (tie.spec
     mul-dsds

@@ -20,6 +20,6 @@ judge-states-requires c κs = let o = c.before.before.before.before.requires in 
 returns-2 : tie.Need-returns-2
 returns-2 c = let o = c.before.before.before.before.before.requires in by_states _ _ _ o.judged o.held c.before.before.enum-told2.given.1 _ c.judge-states.ensures
 
-pub judge-opened-spec : {M : Type 1} → statement M
-judge-opened-spec =
+pub judge_opened_spec : {M : Type 1} → statement M
+judge_opened_spec =
     tie.close (tie.spec enum_told returns enum-told-2 judge-states-requires returns-2)

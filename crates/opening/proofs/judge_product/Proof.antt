@@ -42,8 +42,8 @@ returns-3 c =
     let o = c.before.before.before.before.before.before.before.check-headers.ensures in
     by_states _ _ _ o.judged (λ e. c.before.of.ensures ∙ o.held e) c.before.before.before.before.before.enum-told2.given.1 _ c.judge-states.ensures
 
-pub judge-product-spec : {M : Type 1} → statement M
-judge-product-spec =
+pub judge_product_spec : {M : Type 1} → statement M
+judge_product_spec =
     tie.close
     (tie.spec
     check-headers-requires

@@ -33,8 +33,8 @@ of-requires c κs = search rules
 returns-2 : tie.Need-returns-2
 returns-2 c = opens _ _ _ _ c.before.before.before.before.check-headers.ensures c.before.before.enum_told.given.1 _ c.of.ensures
 
-pub open-headers-spec : {M : Type 1} → statement M
-open-headers-spec =
+pub open_headers_spec : {M : Type 1} → statement M
+open_headers_spec =
     tie.close
     (tie.spec
     check-headers-requires

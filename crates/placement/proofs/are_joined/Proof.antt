@@ -58,8 +58,8 @@ loop-again c =
 returns-3 : tie.Need-returns-3 invariant-loop decreases-loop
 returns-3 c = λ e. joined_all _ _ _ _ _ _ _ c.before.loop.invariant.3 (omega arith) (eqb-true _ _ e)
 
-pub are-joined-spec : {M : Type 1} → statement M
-are-joined-spec =
+pub are_joined_spec : {M : Type 1} → statement M
+are_joined_spec =
     tie.close
     (tie.spec
     invariant-loop

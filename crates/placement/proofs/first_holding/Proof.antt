@@ -51,8 +51,8 @@ loop-again c = (omega arith, find-next _ _ _ _ c.before.before.before.before.bef
 returns-2 : tie.Need-returns-2 invariant-loop decreases-loop
 returns-2 c = find_none _ _ _ _ c.before.loop.invariant.1 (omega arith) (omega arith)
 
-pub first-holding-spec : {M : Type 1} → statement M
-first-holding-spec =
+pub first_holding_spec : {M : Type 1} → statement M
+first_holding_spec =
     tie.close
     (tie.spec
     invariant-loop

@@ -55,8 +55,8 @@ loop-again c = (
 returns-2 : tie.Need-returns-2 invariant-loop decreases-loop
 returns-2 c = outside _ _ _ _ _ _ (omega arith) (first-none _ _ _ _ c.before.loop.invariant.1 _ _ _ (omega arith))
 
-pub first-outside-spec : {M : Type 1} → statement M
-first-outside-spec =
+pub first_outside_spec : {M : Type 1} → statement M
+first_outside_spec =
     tie.close
     (tie.spec
     invariant-loop

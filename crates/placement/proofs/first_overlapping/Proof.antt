@@ -124,8 +124,8 @@ returns-2 c =
     (first_hit _ _ _ _ c.before.before.before.before.before.before.before.before.before.before.before.before.before.before.pairs.invariant.1 _ _ _ (omega arith)
     (overlaps_lower _ _ _ (some_hit _ _ _ c.before.before.before.before.before.before.before.before.loop.invariant.1 (omega arith) (sym c.before.share.ensures ∙ c.if3.true))))
 
-pub first-overlapping-spec : {M : Type 1} → statement M
-first-overlapping-spec =
+pub first_overlapping_spec : {M : Type 1} → statement M
+first_overlapping_spec =
     tie.close
     (tie.spec
     invariant-loop

@@ -74,8 +74,8 @@ loop-again c =
 returns-3 : tie.Need-returns-3 invariant-loop decreases-loop
 returns-3 c = uncovered _ _ _ _ _ _ (omega arith) (first-none _ _ _ _ c.before.loop.invariant.1 _ _ _ c.loop-test.false)
 
-pub first-uncovered-spec : {M : Type 1} → statement M
-first-uncovered-spec =
+pub first_uncovered_spec : {M : Type 1} → statement M
+first_uncovered_spec =
     tie.close
     (tie.spec
     invariant-loop

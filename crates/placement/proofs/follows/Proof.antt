@@ -20,5 +20,5 @@ sub-result c = search rules
 returns-3 : tie.Need-returns-3
 returns-3 c = λ e. let args = c.before.before.args in (λ _. c.if2.false, omega (arith, leb-true args.size (args.length - args.end) e))
 
-pub follows-spec : {M : Type 1} → statement M
-follows-spec = tie.close (tie.spec returns returns-2 sub-result returns-3)
+pub follows_spec : {M : Type 1} → statement M
+follows_spec = tie.close (tie.spec returns returns-2 sub-result returns-3)

@@ -10,5 +10,5 @@ returns c = holds_later _ _ _ c.if1.true
 returns-2 : tie.Need-returns-2
 returns-2 c = holds_rest _ _ _ c.if1.false
 
-pub holds-spec : {M : Type 1} → statement M
-holds-spec = tie.close (tie.spec returns returns-2)
+pub holds_spec : {M : Type 1} → statement M
+holds_spec = tie.close (tie.spec returns returns-2)

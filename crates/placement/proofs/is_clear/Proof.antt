@@ -21,5 +21,5 @@ returns-3 c = λ e. absurd (false≢true e)
 returns-4 : tie.Need-returns-4
 returns-4 c = clear_above _ _ _ _ c.if3.false
 
-pub is-clear-spec : {M : Type 1} → statement M
-is-clear-spec = tie.close (tie.spec returns sub-result returns-2 returns-3 returns-4)
+pub is_clear_spec : {M : Type 1} → statement M
+is_clear_spec = tie.close (tie.spec returns sub-result returns-2 returns-3 returns-4)

@@ -16,5 +16,5 @@ returns-3 c = outside-size _ _ _ _ c.before.before.if1.false c.before.if2.false 
 returns-4 : tie.Need-returns-4
 returns-4 c = outside_end _ _ _ _ c.before.before.if1.false c.before.if2.false c.if3.false
 
-pub is-outside-spec : {M : Type 1} → statement M
-is-outside-spec = tie.close (tie.spec returns returns-2 returns-3 returns-4)
+pub is_outside_spec : {M : Type 1} → statement M
+is_outside_spec = tie.close (tie.spec returns returns-2 returns-3 returns-4)

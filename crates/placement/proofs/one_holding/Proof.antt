@@ -22,7 +22,7 @@ returns-3 : tie.Need-returns-3
 returns-3 c =
     holding_none _ _ _ _ _ _ _ c.before.before.before.first-holding.ensures c.before.before.if1.false c.before.first-holding2.ensures c.if2.false
 
-pub one-holding-spec : {M : Type 1} → statement M
-one-holding-spec =
+pub one_holding_spec : {M : Type 1} → statement M
+one_holding_spec =
     tie.close
     (tie.spec first-holding-requires returns first-holding-requires-2 returns-2 returns-3)

@@ -20,5 +20,5 @@ returns-3 c = from_below _ _ _ _ c.before.before.if1.false c.before.if2.false c.
 returns-4 : tie.Need-returns-4
 returns-4 c = from_above _ _ _ _ c.before.before.if1.false c.before.if2.false c.if3.false
 
-pub share-spec : {M : Type 1} → statement M
-share-spec = tie.close (tie.spec returns returns-2 sub-result returns-3 returns-4)
+pub share_spec : {M : Type 1} → statement M
+share_spec = tie.close (tie.spec returns returns-2 sub-result returns-3 returns-4)

@@ -35,8 +35,8 @@ returns-2 : tie.Need-returns-2
 unfolding field_answer_is field_reply
 returns-2 c = reads_nothing _ _ _ _ c.before.before.before.record-place.ensures _ _ c.before.refusal.given.1
 
-pub field-at-spec : {M : Type 1} → statement M
-field-at-spec =
+pub field_at_spec : {M : Type 1} → statement M
+field_at_spec =
     tie.close
     (tie.spec
     record-place-requires

@@ -43,8 +43,8 @@ returns-2 c =
     let b = c.before.before.before.before.before.args.p.now in
     (sym a, c.at.ensures ∙ ap (λ x. header_for x b) (sym a))
 
-pub header-values-spec : {M : Type 1} → statement M
-header-values-spec =
+pub header_values_spec : {M : Type 1} → statement M
+header_values_spec =
     tie.close
     (tie.spec
     judge-product-requires

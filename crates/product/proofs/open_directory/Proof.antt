@@ -48,8 +48,8 @@ returns-2 c =
     let b = c.before.before.before.before.before.before.before.args.p.now in
     (sym a, c.directory_from.ensures ∙ now_directory b _ o a ∙ ap (λ x. directory_for x b) (sym a))
 
-pub open-directory-spec : {M : Type 1} → statement M
-open-directory-spec =
+pub open_directory_spec : {M : Type 1} → statement M
+open_directory_spec =
     tie.close
     (tie.spec
     open-headers-requires

@@ -27,5 +27,5 @@ returns c =
     let q : a.place + a.size - a.place ≡ a.size = omega arith in
     rw q
 
-pub part-at-spec : {M : Type 1} → statement M
-part-at-spec = tie.close (tie.spec add-end sub-result part-result-start part-result-end returns)
+pub part_at_spec : {M : Type 1} → statement M
+part_at_spec = tie.close (tie.spec add-end sub-result part-result-start part-result-end returns)

@@ -35,8 +35,8 @@ returns-2 : tie.Need-returns-2
 unfolding point_answer_is point_reply
 returns-2 c = reads_nothing _ _ _ _ c.before.before.before.record-place.ensures _ _ c.before.refusal.given.1
 
-pub point-at-spec : {M : Type 1} → statement M
-point-at-spec =
+pub point_at_spec : {M : Type 1} → statement M
+point_at_spec =
     tie.close
     (tie.spec
     record-place-requires

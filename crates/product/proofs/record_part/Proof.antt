@@ -27,8 +27,8 @@ returns c = c.part_at.ensures ∙ part-is _ _ _ c.before.before.before.before.re
 returns-2 : tie.Need-returns-2
 returns-2 c = no_part _ _ _ c.before.before.before.record-place.ensures _ c.before.enum_told.given.1
 
-pub record-part-spec : {M : Type 1} → statement M
-record-part-spec =
+pub record_part_spec : {M : Type 1} → statement M
+record_part_spec =
     tie.close
     (tie.spec
     record-place-requires

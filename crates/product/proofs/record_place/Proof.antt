@@ -36,8 +36,8 @@ place-of-record-requires c κs =
 returns-2 : tie.Need-returns-2
 returns-2 c = search rules
 
-pub record-place-spec : {M : Type 1} → statement M
-record-place-spec =
+pub record_place_spec : {M : Type 1} → statement M
+record_place_spec =
     tie.close
     (tie.spec
     open-headers-requires

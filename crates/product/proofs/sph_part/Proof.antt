@@ -27,8 +27,8 @@ returns c = c.part_at.ensures ∙ part-is _ _ _ c.before.before.before.before.sp
 returns-2 : tie.Need-returns-2
 returns-2 c = no_part _ _ _ c.before.before.before.sph-place.ensures _ c.before.enum_told.given.1
 
-pub sph-part-spec : {M : Type 1} → statement M
-sph-part-spec =
+pub sph_part_spec : {M : Type 1} → statement M
+sph_part_spec =
     tie.close
     (tie.spec
     sph-place-requires

@@ -43,8 +43,8 @@ returns-2 c =
     let a = told-accepted judged.result _ c.before.enum_told.given.1 judged.ensures in
     ap (λ (n : ℕ). is (record { place = 1247; length = n })) (lines_are _ _ c.before.before.before.before.open-headers.ensures a) ∙ sym (rw a)
 
-pub sph-place-spec : {M : Type 1} → statement M
-sph-place-spec =
+pub sph_place_spec : {M : Type 1} → statement M
+sph_place_spec =
     tie.close
     (tie.spec
     open-headers-requires

@@ -12,5 +12,5 @@ returns : tie.Need-returns
 unfolding div degrees quotient of_int of_bits
 returns c = search rules
 
-pub degrees-spec : {M : Type 1} → statement M
-degrees-spec = tie.close (tie.spec int-to-float-result returns)
+pub degrees_spec : {M : Type 1} → statement M
+degrees_spec = tie.close (tie.spec int-to-float-result returns)

@@ -12,5 +12,5 @@ returns : tie.Need-returns
 unfolding div metres quotient of_int of_bits
 returns c = search rules
 
-pub metres-spec : {M : Type 1} → statement M
-metres-spec = tie.close (tie.spec int-to-float-result returns)
+pub metres_spec : {M : Type 1} → statement M
+metres_spec = tie.close (tie.spec int-to-float-result returns)

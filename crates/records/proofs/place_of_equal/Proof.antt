@@ -53,8 +53,8 @@ returns-2 c =
     let pre = c.before.before.before.before.before.requires in
     equal_record _ _ pre.0 _ pre.1 pre.2 _ c.before.before.if1.false
 
-pub place-of-equal-spec : {M : Type 1} → statement M
-place-of-equal-spec =
+pub place_of_equal_spec : {M : Type 1} → statement M
+place_of_equal_spec =
     tie.close
     (tie.spec
     mul-count

@@ -42,8 +42,8 @@ place-of-unequal-requires c κs =
 returns-4 : tie.Need-returns-4
 returns-4 c = c.place-of-unequal.ensures ∙ sym (in_entries _ _ c.before.before.before.before.before.before.before.requires _ c.before.before.before.before.if1.false _)
 
-pub place-of-record-spec : {M : Type 1} → statement M
-place-of-record-spec =
+pub place_of_record_spec : {M : Type 1} → statement M
+place_of_record_spec =
     tie.close
     (tie.spec
     refuse-requires

@@ -47,8 +47,8 @@ returns-2 c =
     let s = c.before.before.before.before.before.before.before in
     c.refuse.ensures ∙ no_unequal _ _ s.requires.0 _ s.requires.1 s.requires.2 _ c.before.before.before.before.before.states-span.ensures _ _ s.requires.3 (sym c.before.enum_told.given.1 ∙ c.before.before.before.find-record.ensures)
 
-pub place-of-unequal-spec : {M : Type 1} → statement M
-place-of-unequal-spec =
+pub place_of_unequal_spec : {M : Type 1} → statement M
+place_of_unequal_spec =
     tie.close
     (tie.spec
     states-span-requires

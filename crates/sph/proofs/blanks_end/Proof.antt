@@ -24,8 +24,8 @@ last-end-requires c κs = let k = run_within _ _ _ _ (omega arith) c.first-not-b
 returns-2 : tie.Need-returns-2
 returns-2 c = blanks_run _ _ _ _ _ (omega arith) (omega arith) c.before.first-not-blank.ensures c.last-end.ensures
 
-pub blanks-end-spec : {M : Type 1} → statement M
-blanks-end-spec =
+pub blanks_end_spec : {M : Type 1} → statement M
+blanks_end_spec =
     tie.close
     (tie.spec
     ends-at-requires

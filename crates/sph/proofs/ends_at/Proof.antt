@@ -15,5 +15,5 @@ shared-slice-read-result c = search rules
 returns-2 : tie.Need-returns-2
 returns-2 c = let args = c.before.before.args in ends_test _ args.at args.to (omega arith)
 
-pub ends-at-spec : {M : Type 1} → statement M
-ends-at-spec = tie.close (tie.spec returns shared-slice-read-result returns-2)
+pub ends_at_spec : {M : Type 1} → statement M
+ends_at_spec = tie.close (tie.spec returns shared-slice-read-result returns-2)

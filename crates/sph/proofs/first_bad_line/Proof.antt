@@ -30,8 +30,8 @@ loop-again c = reached-next _ _ _ _ c.before.before.before.loop.invariant _ (lin
 returns-2 : tie.Need-returns-2 invariant-loop decreases-loop
 returns-2 c = reached_end _ _ _ _ c.before.loop.invariant (omega arith)
 
-pub first-bad-line-spec : {M : Type 1} → statement M
-first-bad-line-spec =
+pub first_bad_line_spec : {M : Type 1} → statement M
+first_bad_line_spec =
     tie.close
     (tie.spec
     invariant-loop

@@ -46,8 +46,8 @@ loop-again c = (omega arith, find-next _ _ _ _ c.before.before.before.before.loo
 returns-2 : tie.Need-returns-2 invariant-loop decreases-loop
 returns-2 c = find_none _ _ _ _ c.before.loop.invariant.1 (omega arith) (omega arith)
 
-pub first-not-in-keyword-spec : {M : Type 1} → statement M
-first-not-in-keyword-spec =
+pub first_not_in_keyword_spec : {M : Type 1} → statement M
+first_not_in_keyword_spec =
     tie.close
     (tie.spec
     invariant-loop

@@ -9,5 +9,5 @@ returns : tie.Need-returns
 unfolding in_keyword
 returns c = refl
 
-pub in-keyword-spec : {M : Type 1} → statement M
-in-keyword-spec = tie.close (tie.spec returns)
+pub in_keyword_spec : {M : Type 1} → statement M
+in_keyword_spec = tie.close (tie.spec returns)

@@ -54,8 +54,8 @@ returns-3 c = skipped_last _ _ _ _ c.before.before.before.loop.invariant _ 8 (om
 returns-4 : tie.Need-returns-4 invariant-loop decreases-loop
 returns-4 c = c.before.before.before.loop.invariant
 
-pub keyword-blocks-spec : {M : Type 1} → statement M
-keyword-blocks-spec =
+pub keyword_blocks_spec : {M : Type 1} → statement M
+keyword_blocks_spec =
     tie.close
     (tie.spec
     invariant-loop

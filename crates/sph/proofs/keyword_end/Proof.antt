@@ -28,8 +28,8 @@ value-end-requires c κs = let k = run_within _ _ _ _ (omega arith) c.before.bef
 returns-3 : tie.Need-returns-3
 returns-3 c = after_it _ _ _ keyword value 61 _ _ (keyword_run _ _ _ _ _ (omega arith) (omega arith) c.before.before.before.before.first-not-in-keyword.ensures) (omega arith) (omega arith) (omega arith) c.before.if2.false (λ q. omega arith) c.value-end.ensures
 
-pub keyword-end-spec : {M : Type 1} → statement M
-keyword-end-spec =
+pub keyword_end_spec : {M : Type 1} → statement M
+keyword_end_spec =
     tie.close
     (tie.spec
     first-not-in-keyword-requires

@@ -43,8 +43,8 @@ loop-again c = (omega arith, all_more _ _ _ _ _ c.before.before.before.loop.inva
 returns : tie.Need-returns invariant-loop decreases-loop
 returns c = all_end _ _ _ _ _ (omega arith) (omega arith) c.before.loop.invariant.1
 
-pub keyword-in-spec : {M : Type 1} → statement M
-keyword-in-spec =
+pub keyword_in_spec : {M : Type 1} → statement M
+keyword_in_spec =
     tie.close
     (tie.spec
     invariant-loop

@@ -18,5 +18,5 @@ returns c = let here = ends_here _ _ _ _ c.before.ends_at.ensures c.if1.true in 
 returns-2 : tie.Need-returns-2
 returns-2 c = last_none _ _ _ _ (omega arith) (omega arith) (omega arith) _ c.before.ends_at.ensures c.if1.false
 
-pub last-end-spec : {M : Type 1} → statement M
-last-end-spec = tie.close (tie.spec ends-at-requires add-result returns returns-2)
+pub last_end_spec : {M : Type 1} → statement M
+last_end_spec = tie.close (tie.spec ends-at-requires add-result returns returns-2)

@@ -33,8 +33,8 @@ keyword-end-requires c κs = search rules
 returns-4 : tie.Need-returns-4
 returns-4 c = line-keyword _ _ _ (omega arith) (omega arith) c.before.before.before.if1.false c.before.before.if2.false c.before.if3.false c.keyword-end.ensures
 
-pub line-end-spec : {M : Type 1} → statement M
-line-end-spec =
+pub line_end_spec : {M : Type 1} → statement M
+line_end_spec =
     tie.close
     (tie.spec
     shared-slice-read-x

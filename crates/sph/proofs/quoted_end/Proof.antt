@@ -28,8 +28,8 @@ last-end-requires c κs = let k = run_within _ _ _ _ (omega arith) c.before.befo
 returns-3 : tie.Need-returns-3
 returns-3 c = after_it _ _ _ quoted ended 34 _ _ (quoted_run _ _ _ _ _ (omega arith) (omega arith) c.before.before.before.before.first-not-plain.ensures) (omega arith) (omega arith) (omega arith) c.before.if2.false (λ q. omega arith) c.last-end.ensures
 
-pub quoted-end-spec : {M : Type 1} → statement M
-quoted-end-spec =
+pub quoted_end_spec : {M : Type 1} → statement M
+quoted_end_spec =
     tie.close
     (tie.spec
     first-not-plain-requires

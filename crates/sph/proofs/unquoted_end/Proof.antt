@@ -24,8 +24,8 @@ last-end-requires c κs = let k = run_within _ _ _ _ (omega arith) c.first-not-p
 returns-2 : tie.Need-returns-2
 returns-2 c = unquoted_run _ _ _ _ _ (omega arith) (omega arith) c.before.first-not-plain.ensures c.last-end.ensures
 
-pub unquoted-end-spec : {M : Type 1} → statement M
-unquoted-end-spec =
+pub unquoted_end_spec : {M : Type 1} → statement M
+unquoted_end_spec =
     tie.close
     (tie.spec
     ends-at-requires

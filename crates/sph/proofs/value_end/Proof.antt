@@ -37,8 +37,8 @@ unquoted-end-requires c κs = search rules
 returns-4 : tie.Need-returns-4
 returns-4 c = value-unquoted _ _ _ _ (omega arith) (omega arith) (omega arith) c.before.before.before.if2.false _ c.before.before.is_plain.ensures (not-false _ c.before.if3.false) c.unquoted-end.ensures
 
-pub value-end-spec : {M : Type 1} → statement M
-value-end-spec =
+pub value_end_spec : {M : Type 1} → statement M
+value_end_spec =
     tie.close
     (tie.spec
     returns

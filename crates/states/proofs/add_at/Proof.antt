@@ -35,8 +35,8 @@ returns-3 c =
     let a = c.before.before.before.before.args in
     rw c.plus.ensures (added-one a.sums.now a.kind a.more (omega arith) (omega arith))
 
-pub add-at-spec : {M : Type 1} → statement M
-add-at-spec =
+pub add_at_spec : {M : Type 1} → statement M
+add_at_spec =
     tie.close
     (tie.spec
     returns

@@ -37,8 +37,8 @@ returns c =
     let a = next.before.before in
     with_parts _ _ _ a.before.args.i _ _ a.adds-to.ensures.0 next.before.fits2.ensures next.bad-after.ensures c.before.before.add_at.ensures c.add-at2.ensures
 
-pub add-state-spec : {M : Type 1} → statement M
-add-state-spec =
+pub add_state_spec : {M : Type 1} → statement M
+add_state_spec =
     tie.close
     (tie.spec
     adds-to-requires

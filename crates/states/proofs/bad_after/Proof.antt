@@ -18,5 +18,5 @@ returns-2 c = rw (eq-eqb c.before.before.args.bad c.before.before.args.i c.befor
 returns-3 : tie.Need-returns-3
 returns-3 c = rw (c.if2.false, and-false)
 
-pub bad-after-spec : {M : Type 1} → statement M
-bad-after-spec = tie.close (tie.spec returns add-result returns-2 returns-3)
+pub bad_after_spec : {M : Type 1} → statement M
+bad_after_spec = tie.close (tie.spec returns add-result returns-2 returns-3)

@@ -85,8 +85,8 @@ loop-again c =
 returns-2 : tie.Need-returns-2 invariant-loop decreases-loop
 returns-2 c = record_nowhere _ _ _ _ _ _ _ _ c.before.loop.invariant.2 c.loop-test.false
 
-pub find-record-spec : {M : Type 1} → statement M
-find-record-spec =
+pub find_record_spec : {M : Type 1} → statement M
+find_record_spec =
     tie.close
     (tie.spec
     invariant-loop

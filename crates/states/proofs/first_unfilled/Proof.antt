@@ -70,8 +70,8 @@ loop-again c =
 returns-2 : tie.Need-returns-2 invariant-loop decreases-loop
 returns-2 c = rw sub-zero at (find_none _ _ _ _ c.before.loop.invariant.1.1 (omega arith) (omega arith))
 
-pub first-unfilled-spec : {M : Type 1} → statement M
-first-unfilled-spec =
+pub first_unfilled_spec : {M : Type 1} → statement M
+first_unfilled_spec =
     tie.close
     (tie.spec
     invariant-loop

@@ -21,5 +21,5 @@ returns c =
     let n = c.before.args.entries in
     ap (λ (r : ℕ). not (eqb r n)) (rw sub-zero at c.first-role.ensures) ∙ sym (some-found (role_within roles 1 4) 0 n ∙ rw (zero-add n))
 
-pub has-variable-spec : {M : Type 1} → statement M
-has-variable-spec = tie.close (tie.spec first-role-requires returns)
+pub has_variable_spec : {M : Type 1} → statement M
+has_variable_spec = tie.close (tie.spec first-role-requires returns)

@@ -42,8 +42,8 @@ array-read-result c = search rules
 returns-4 : tie.Need-returns-4
 returns-4 c = total_decides _ _ _ _ _ (omega arith) (omega arith) c.if3.false
 
-pub is-unfilled-spec : {M : Type 1} → statement M
-is-unfilled-spec =
+pub is_unfilled_spec : {M : Type 1} → statement M
+is_unfilled_spec =
     tie.close
     (tie.spec
     returns

@@ -72,8 +72,8 @@ judge-filled-requires-2 c κs = most c.before.before.before.before.before.before
 returns-4 : tie.Need-returns-4
 returns-4 c = c.judge-filled2.ensures ∙ by_good _ _ _ c.before.before.before.if1.false c.before.before.if2.false c.before.if3.false
 
-pub judge-described-spec : {M : Type 1} → statement M
-judge-described-spec =
+pub judge_described_spec : {M : Type 1} → statement M
+judge_described_spec =
     tie.close
     (tie.spec
     mul-size

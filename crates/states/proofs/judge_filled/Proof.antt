@@ -27,8 +27,8 @@ refuse-requires c κs = search rules
 returns-2 : tie.Need-returns-2
 returns-2 c = c.refuse.ensures ∙ one-unfilled _ _ _ _ c.before.before.before.first-unfilled.ensures c.before.before.if1.false
 
-pub judge-filled-spec : {M : Type 1} → statement M
-judge-filled-spec =
+pub judge_filled_spec : {M : Type 1} → statement M
+judge_filled_spec =
     tie.close
     (tie.spec
     first-unfilled-requires

@@ -30,8 +30,8 @@ judge-tally-requires c κs = (_, c.before.before.before.before.before.before.bef
 returns-2 : tie.Need-returns-2
 returns-2 c = λ ds n held fits. c.judge-tally.ensures ds n held fits ∙ tally_decides ds n fits _ _ _ (c.before.before.states-span.ensures ds n held fits) c.before.tally-states.ensures
 
-pub judge-states-spec : {M : Type 1} → statement M
-judge-states-spec =
+pub judge_states_spec : {M : Type 1} → statement M
+judge_states_spec =
     tie.close
     (tie.spec
     has-variable-requires

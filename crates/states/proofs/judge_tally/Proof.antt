@@ -43,8 +43,8 @@ returns-3 c =
     let f = i.before.before in
     λ ds n held fits. c.judge-described.ensures ∙ one_described _ ds n held fits _ i.only-states.ensures _ (sym f.before.has-variable.ensures ∙ not-false _ f.if1.false) c.before.if2.false
 
-pub judge-tally-spec : {M : Type 1} → statement M
-judge-tally-spec =
+pub judge_tally_spec : {M : Type 1} → statement M
+judge_tally_spec =
     tie.close
     (tie.spec
     has-variable-requires

@@ -30,8 +30,8 @@ returns-3 : tie.Need-returns-3
 unfolding only_states
 returns-3 c = only_one _ _ _ (rw sub-zero at c.before.before.before.first-role.ensures) c.before.before.if1.false (sym c.before.first-role2.ensures ∙ c.if2.false)
 
-pub only-states-spec : {M : Type 1} → statement M
-only-states-spec =
+pub only_states_spec : {M : Type 1} → statement M
+only_states_spec =
     tie.close
     (tie.spec
     first-role-requires

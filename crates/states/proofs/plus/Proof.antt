@@ -15,5 +15,5 @@ returns c = sym (capped_stops _ c.if1.true)
 returns-2 : tie.Need-returns-2
 returns-2 c = sym (capped_is _ c.if1.false)
 
-pub plus-spec : {M : Type 1} → statement M
-plus-spec = tie.close (tie.spec add-all returns returns-2)
+pub plus_spec : {M : Type 1} → statement M
+plus_spec = tie.close (tie.spec add-all returns returns-2)

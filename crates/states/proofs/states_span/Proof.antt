@@ -71,8 +71,8 @@ returns-4 c =
     let f = c.before.before.before.before.before in
     λ ds n held fits. all_spanned _ ds n held fits _ f.before.only-states.ensures f.if1.false c.before.if2.false c.if3.false
 
-pub states-span-spec : {M : Type 1} → statement M
-states-span-spec =
+pub states_span_spec : {M : Type 1} → statement M
+states_span_spec =
     tie.close
     (tie.spec
     only-states-requires

@@ -53,8 +53,8 @@ loop-again c =
 returns : tie.Need-returns invariant-loop decreases-loop
 returns c = sym (after_end _ _ _ _ _ c.loop-test.false) ∙ sym c.before.loop.invariant.3 ∙ after-all _
 
-pub tally-states-spec : {M : Type 1} → statement M
-tally-states-spec =
+pub tally_states_spec : {M : Type 1} → statement M
+tally_states_spec =
     tie.close
     (tie.spec
     invariant-loop

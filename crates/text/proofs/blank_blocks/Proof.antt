@@ -54,8 +54,8 @@ returns-3 c = skipped_last _ _ _ _ c.before.before.before.loop.invariant _ _ (om
 returns-4 : tie.Need-returns-4 invariant-loop decreases-loop
 returns-4 c = c.before.before.before.loop.invariant
 
-pub blank-blocks-spec : {M : Type 1} → statement M
-blank-blocks-spec =
+pub blank_blocks_spec : {M : Type 1} → statement M
+blank_blocks_spec =
     tie.close
     (tie.spec
     invariant-loop

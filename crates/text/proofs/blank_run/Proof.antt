@@ -30,8 +30,8 @@ blank-blocks-requires-2 c κs = (c.blank-blocks.ensures.high, omega arith, omega
 returns-3 : tie.Need-returns-3
 returns-3 c = skipped_run _ _ _ 16 _ _ _ (omega arith) c.before.before.before.blanks-in.ensures (not-false _ c.before.before.if2.false) c.before.blank-blocks.ensures c.blank-blocks2.ensures
 
-pub blank-run-spec : {M : Type 1} → statement M
-blank-run-spec =
+pub blank_run_spec : {M : Type 1} → statement M
+blank_run_spec =
     tie.close
     (tie.spec
     sub-if1

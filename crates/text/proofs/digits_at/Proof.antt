@@ -42,8 +42,8 @@ loop-again c = (
 returns : tie.Need-returns invariant-loop decreases-loop
 returns c = sym (c.before.loop.invariant.2 ∙ digits_end _ _ _ _ (omega arith) (omega arith))
 
-pub digits-at-spec : {M : Type 1} → statement M
-digits-at-spec =
+pub digits_at_spec : {M : Type 1} → statement M
+digits_at_spec =
     tie.close
     (tie.spec
     invariant-loop

@@ -41,8 +41,8 @@ loop-again c = (omega arith, find-next _ _ _ _ c.before.before.before.loop.invar
 returns-2 : tie.Need-returns-2 invariant-loop decreases-loop
 returns-2 c = find_none _ _ _ _ c.before.loop.invariant.1 (omega arith) (omega arith)
 
-pub first-not-blank-spec : {M : Type 1} → statement M
-first-not-blank-spec =
+pub first_not_blank_spec : {M : Type 1} → statement M
+first_not_blank_spec =
     tie.close
     (tie.spec
     invariant-loop

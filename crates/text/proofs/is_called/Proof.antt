@@ -75,8 +75,8 @@ returns-2 c =
     (name_end entry.args.p.now entry.args.name.now entry.args.start c.before.before.loop.i (entry.args.start + 28) entry.requires.0 (omega arith) (omega arith)
     ∙ sym c.before.before.loop.invariant.1)
 
-pub is-called-spec : {M : Type 1} → statement M
-is-called-spec =
+pub is_called_spec : {M : Type 1} → statement M
+is_called_spec =
     tie.close
     (tie.spec
     invariant-loop

@@ -9,5 +9,5 @@ returns : tie.Need-returns
 unfolding fits
 returns c = refl
 
-pub is-plain-spec : {M : Type 1} → statement M
-is-plain-spec = tie.close (tie.spec returns)
+pub is_plain_spec : {M : Type 1} → statement M
+is_plain_spec = tie.close (tie.spec returns)

@@ -48,8 +48,8 @@ digits-at-requires c κs = search rules
 returns-3 : tie.Need-returns-3
 returns-3 c = search rules
 
-pub magnitude-at-spec : {M : Type 1} → statement M
-magnitude-at-spec =
+pub magnitude_at_spec : {M : Type 1} → statement M
+magnitude_at_spec =
     tie.close
     (tie.spec
     sub-if1

@@ -21,8 +21,8 @@ shared-slice-read-t8 c = search rules
 returns : tie.Need-returns
 returns c = number_is _ _ _ _ (omega arith) (omega arith) c.before.magnitude-at.ensures
 
-pub number-at-spec : {M : Type 1} → statement M
-number-at-spec =
+pub number_at_spec : {M : Type 1} → statement M
+number_at_spec =
     tie.close
     (tie.spec
     add-magnitude-at

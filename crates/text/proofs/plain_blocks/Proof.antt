@@ -39,8 +39,8 @@ loop-again c = skipped_block _ _ _ _ c.before.before.before.loop.invariant _ _ (
 returns-2 : tie.Need-returns-2 invariant-loop decreases-loop
 returns-2 c = c.before.loop.invariant
 
-pub plain-blocks-spec : {M : Type 1} → statement M
-plain-blocks-spec =
+pub plain_blocks_spec : {M : Type 1} → statement M
+plain_blocks_spec =
     tie.close
     (tie.spec
     invariant-loop

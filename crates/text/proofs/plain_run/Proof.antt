@@ -30,8 +30,8 @@ plain-blocks-requires-2 c κs = (c.plain-blocks.ensures.high, omega arith, omega
 returns-3 : tie.Need-returns-3
 returns-3 c = skipped_run _ _ _ 16 _ _ _ (omega arith) c.before.before.before.Plain-in.ensures (not-false _ c.before.before.if2.false) c.before.plain-blocks.ensures c.plain-blocks2.ensures
 
-pub plain-run-spec : {M : Type 1} → statement M
-plain-run-spec =
+pub plain_run_spec : {M : Type 1} → statement M
+plain_run_spec =
     tie.close
     (tie.spec
     sub-if1

@@ -64,8 +64,8 @@ returns c =
       omega arith,
     )
 
-pub ten-digits-spec : {M : Type 1} → statement M
-ten-digits-spec =
+pub ten_digits_spec : {M : Type 1} → statement M
+ten_digits_spec =
     tie.close
     (tie.spec
     two-digits-requires

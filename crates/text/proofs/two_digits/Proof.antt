@@ -33,8 +33,8 @@ add-result c = search rules
 returns : tie.Need-returns
 returns c = (pair_is _ _ _ _ c.before.before.before.before.before.requires.0 c.before.before.before.before.before.requires.1 c.before.before.value_of_lem.ensures.0 c.value-of2.ensures.0, omega arith)
 
-pub two-digits-spec : {M : Type 1} → statement M
-two-digits-spec =
+pub two_digits_spec : {M : Type 1} → statement M
+two_digits_spec =
     tie.close
     (tie.spec
     shared-slice-read-value-of

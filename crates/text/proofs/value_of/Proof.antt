@@ -12,5 +12,5 @@ sub-result c = omega (arith, (digit_bounds c.args.x c.requires).0)
 returns : tie.Need-returns
 returns c = (refl, omega (arith, (digit_bounds c.args.x c.requires).1))
 
-pub value-of-spec : {M : Type 1} → statement M
-value-of-spec = tie.close (tie.spec sub-result returns)
+pub value_of_spec : {M : Type 1} → statement M
+value_of_spec = tie.close (tie.spec sub-result returns)

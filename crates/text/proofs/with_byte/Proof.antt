@@ -31,6 +31,6 @@ returns-4 c =
     let entry = c.before.before.before.before in
     omega (arith, byte_digit entry.args.magnitude entry.args.x c.before.before.before.if1.false)
 
-pub with-byte-spec : {M : Type 1} → statement M
-with-byte-spec =
+pub with_byte_spec : {M : Type 1} → statement M
+with_byte_spec =
     tie.close (tie.spec returns returns-2 mul_next digit-of-requires add-next returns-3 returns-4)

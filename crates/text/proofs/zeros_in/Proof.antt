@@ -40,8 +40,8 @@ loop-again c = (omega arith, all_more _ _ _ _ _ c.before.before.loop.invariant.1
 returns : tie.Need-returns invariant-loop decreases-loop
 returns c = all_end _ _ _ _ _ (omega arith) (omega arith) c.before.loop.invariant.1
 
-pub zeros-in-spec : {M : Type 1} → statement M
-zeros-in-spec =
+pub zeros_in_spec : {M : Type 1} → statement M
+zeros_in_spec =
     tie.close
     (tie.spec
     invariant-loop

@@ -81,8 +81,8 @@ returns-3 c =
     let put = c.before.before.put-words3.ensures in
     spelled (given_words c.before.before.before.before.before.before.before.before.before.before.before.before.before.before.args.answer known.0.0 _ known.1 days) (at_most 7 put (omega (arith, put.narrow, slice-aggregate-put-words-3 c.before.before.before)))
 
-pub put-time-spec : {M : Type 1} → statement M
-put-time-spec =
+pub put_time_spec : {M : Type 1} → statement M
+put_time_spec =
     tie.close
     (tie.spec
     enum-known-answer

@@ -35,8 +35,8 @@ returns-3 : tie.Need-returns-3
 returns-3 c =
     both_written c.before.before.before.before.before.before.before.before.before.put-verdict.ensures c.before.before.put-text.ensures (rw verdict_three (omega arith)) (rw (text-long c.before.before.before.before.before.before.before.before.before.before.before.before.before.before.before) (omega arith))
 
-pub put-whole-text-spec : {M : Type 1} → statement M
-put-whole-text-spec =
+pub put_whole_text_spec : {M : Type 1} → statement M
+put_whole_text_spec =
     tie.close
     (tie.spec
     returns

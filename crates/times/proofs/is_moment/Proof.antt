@@ -13,5 +13,5 @@ returns : tie.Need-returns
 unfolding valid_moment
 returns c = rw c.before.before.before.before.is-date.ensures refl
 
-pub is-moment-spec : {M : Type 1} → statement M
-is-moment-spec = tie.close (tie.spec is-date-requires returns)
+pub is_moment_spec : {M : Type 1} → statement M
+is_moment_spec = tie.close (tie.spec is-date-requires returns)

@@ -35,7 +35,7 @@ returns c =
     let number = day_is t.days (record { sfits = c.before.before.before.struct_told.given.0.1 }) v.range date.result date.ensures.1 in
     (found_valid t v date.result date.ensures.0 number, found-time t v date.result date.ensures.0 number)
 
-pub moment-of-spec : {M : Type 1} → statement M
-moment-of-spec =
+pub moment_of_spec : {M : Type 1} → statement M
+moment_of_spec =
     tie.close
     (tie.spec add-before cast-before mul-rest sub-rest date-after-requires mul-t7 sub-t9 returns)

@@ -33,8 +33,8 @@ returns-2 c =
     let good = told _ (sym (ap valid_time kept) ∙ sym c.before.before.before.is-time.ensures ∙ not-false _ c.before.before.if1.false) in
     given-text _ moment.result _ good moment.ensures.0 (moment.ensures.1 ∙ kept) c.text_of.ensures
 
-pub text-of-time-spec : {M : Type 1} → statement M
-text-of-time-spec =
+pub text_of_time_spec : {M : Type 1} → statement M
+text_of_time_spec =
     tie.close
     (tie.spec
     is-time-requires

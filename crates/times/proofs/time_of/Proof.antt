@@ -34,6 +34,6 @@ returns c =
     let before = c.before.before.before.days-before in
     time-is m _ (number_is before.result before.ensures.1 m.date before.ensures.0)
 
-pub time-of-spec : {M : Type 1} → statement M
-time-of-spec =
+pub time_of_spec : {M : Type 1} → statement M
+time_of_spec =
     tie.close (tie.spec days-before-requires cast-t3 sub-t4 mul-t5 mul-t6 add-t7 add-t8 returns)

@@ -58,8 +58,8 @@ returns-5 c =
     let good = told _ (sym (ap valid_moment read) ∙ sym c.before.before.is-moment.ensures ∙ not-false _ c.before.if4.false) in
     rw (c.time-of.ensures, read) (said_time c.before.before.before.before.before.before.before.before.args.text.now c.before.before.before.before.before.before.if1.false formed good)
 
-pub time-of-text-spec : {M : Type 1} → statement M
-time-of-text-spec =
+pub time_of_text_spec : {M : Type 1} → statement M
+time_of_text_spec =
     tie.close
     (tie.spec
     refuse-requires

@@ -42,8 +42,8 @@ returns c =
       leap_err = one_byte c.before.before.before.before.before.before.before.args.p.now 1009 j;
     }
 
-pub read-clock-spec : {M : Type 1} → statement M
-read-clock-spec =
+pub read_clock_spec : {M : Type 1} → statement M
+read_clock_spec =
     tie.close
     (tie.spec
     bytes27-requires

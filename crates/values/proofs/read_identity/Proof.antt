@@ -43,8 +43,8 @@ returns c =
       software_ver = c.bytes14.ensures j;
     }
 
-pub read-identity-spec : {M : Type 1} → statement M
-read-identity-spec =
+pub read_identity_spec : {M : Type 1} → statement M
+read_identity_spec =
     tie.close
     (tie.spec
     bytes62-requires

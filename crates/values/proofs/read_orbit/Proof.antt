@@ -58,8 +58,8 @@ returns c =
       vector_source = c.bytes2.ensures j;
     }
 
-pub read-orbit-spec : {M : Type 1} → statement M
-read-orbit-spec =
+pub read_orbit_spec : {M : Type 1} → statement M
+read_orbit_spec =
     tie.close
     (tie.spec
     bytes27-requires

@@ -40,8 +40,8 @@ returns c =
       abs_orbit = (kept c.whole-at3.type-inv ∙ c.whole-at3.ensures) j;
     }
 
-pub read-sensing-spec : {M : Type 1} → statement M
-read-sensing-spec =
+pub read_sensing_spec : {M : Type 1} → statement M
+read_sensing_spec =
     tie.close
     (tie.spec
     bytes27-requires

@@ -45,8 +45,8 @@ returns c =
       num_data_sets = (kept c.whole-at5.type-inv ∙ c.whole-at5.ensures) j;
     }
 
-pub read-sizes-spec : {M : Type 1} → statement M
-read-sizes-spec =
+pub read_sizes_spec : {M : Type 1} → statement M
+read_sizes_spec =
     tie.close
     (tie.spec
     shared-slice-read-t3

@@ -31,5 +31,5 @@ returns c =
     ∙ ap whole_in c.before.number_at.ensures
     ∙ whole_true start.args.p.now start.args.at start.args.width ((magnitude-fits _ _ _).1 fits)
 
-pub whole-at-spec : {M : Type 1} → statement M
-whole-at-spec = tie.close (tie.spec number-at-requires whole-requires returns)
+pub whole_at_spec : {M : Type 1} → statement M
+whole_at_spec = tie.close (tie.spec number-at-requires whole-requires returns)

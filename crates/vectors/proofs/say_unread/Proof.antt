@@ -34,8 +34,8 @@ fail-requires c κs = search rules
 returns : tie.Need-returns
 returns c = search rules
 
-pub say-unread-spec : {M : Type 1} → statement M
-say-unread-spec =
+pub say_unread_spec : {M : Type 1} → statement M
+say_unread_spec =
     tie.close
     (tie.spec
     slice-aggregate-put-text

@@ -32,8 +32,8 @@ loop-again c = tt
 returns-2 : tie.Need-returns-2 invariant-loop decreases-loop
 returns-2 c = tt
 
-pub show-arguments-spec : {M : Type 1} → statement M
-show-arguments-spec =
+pub show_arguments_spec : {M : Type 1} → statement M
+show_arguments_spec =
     tie.close
     (tie.spec
     invariant-loop

@@ -49,8 +49,8 @@ show-read-requires c κs = search rules
 returns-3 : tie.Need-returns-3
 returns-3 c = search rules
 
-pub show-file-spec : {M : Type 1} → statement M
-show-file-spec =
+pub show_file_spec : {M : Type 1} → statement M
+show_file_spec =
     tie.close
     (tie.spec
     open-read-requires

@@ -57,8 +57,8 @@ same_length c = rw (c.before.loop.invariant.1, length_sets)
 returns : tie.Need-returns invariant-loop decreases-loop
 returns c = record { next = refl; written = c.before.loop.invariant.1 ∙ rw (take_all c.before.loop.i c.before.before.before.before.args.bytes.now (omega arith)); narrow = omega arith }
 
-pub put-bytes-spec : {M : Type 1} → statement M
-put-bytes-spec =
+pub put_bytes_spec : {M : Type 1} → statement M
+put_bytes_spec =
     tie.close
     (tie.spec
     invariant-loop

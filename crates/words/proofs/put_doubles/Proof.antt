@@ -32,8 +32,8 @@ returns-2 c =
     let known = c.before.before.before.before.before.answer.given in
     spelled (point-doubles c.before.before.before.before.before.before.before.before.args.answer known.0.0 known.1) c.before.before.put-three2.ensures
 
-pub put-doubles-spec : {M : Type 1} → statement M
-put-doubles-spec =
+pub put_doubles_spec : {M : Type 1} → statement M
+put_doubles_spec =
     tie.close
     (tie.spec
     enum_told

@@ -57,8 +57,8 @@ returns-2 c =
     let put = then c.before.before.before.before.before.before.before.put-words2.ensures c.before.before.put-words3.ensures in
     spelled (ap (λ (l : List ℕ). 0 ∷ 0 ∷ 0 ∷ l) c.before.before.before.before.before.before.before.before.before.before.value-words.ensures ∙ field-words c.before.before.before.before.before.before.before.before.before.before.before.before.before.before.before.args.answer known.0.0 known.1) (at_most 7 put (omega (arith, put.narrow, slice-aggregate-put-words-3 c.before.before.before)))
 
-pub put-field-spec : {M : Type 1} → statement M
-put-field-spec =
+pub put_field_spec : {M : Type 1} → statement M
+put_field_spec =
     tie.close
     (tie.spec
     enum-known-answer

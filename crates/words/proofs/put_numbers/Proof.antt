@@ -70,8 +70,8 @@ returns c =
     let wide = length-map numbers word in
     record { next = rw wide; written = c.before.loop.invariant.1 ∙ rw (take_all c.before.loop.i (map word numbers) (omega (arith, wide))); narrow = omega (arith, wide) }
 
-pub put-numbers-spec : {M : Type 1} → statement M
-put-numbers-spec =
+pub put_numbers_spec : {M : Type 1} → statement M
+put_numbers_spec =
     tie.close
     (tie.spec
     invariant-loop

@@ -41,8 +41,8 @@ returns-2 c =
     let known = c.before.before.before.before.before.before.before.before.before.before.answer2.given in
     spelled (no_place_words c.before.before.before.before.before.before.before.before.before.before.before.before.before.args.answer known.0.0 known.1) (then c.before.before.before.before.before.before.before.put-refusal.ensures c.before.before.put-words2.ensures)
 
-pub put-place-spec : {M : Type 1} → statement M
-put-place-spec =
+pub put_place_spec : {M : Type 1} → statement M
+put_place_spec =
     tie.close
     (tie.spec
     enum-known-answer

@@ -35,8 +35,8 @@ same-length-2 c = search rules
 returns-2 : tie.Need-returns-2
 returns-2 c = spelled (point-words c.before.before.before.before.before.before.before.before.args.answer _ c.before.before.before.before.before.enum_told.given.1) c.before.before.put-words.ensures
 
-pub put-point-spec : {M : Type 1} → statement M
-put-point-spec =
+pub put_point_spec : {M : Type 1} → statement M
+put_point_spec =
     tie.close
     (tie.spec
     enum-known-answer

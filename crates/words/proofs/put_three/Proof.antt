@@ -21,6 +21,6 @@ same_length c = search rules
 returns : tie.Need-returns
 returns c = search rules
 
-pub put-three-spec : {M : Type 1} → statement M
-put-three-spec =
+pub put_three_spec : {M : Type 1} → statement M
+put_three_spec =
     tie.close (tie.spec slice-write-room slice-write-room-2 slice-write-room-3 same_length returns)

@@ -35,8 +35,8 @@ returns-2 c =
     let known = c.before.before.before.before.before.verdict.given in
     spelled (refused_words c.before.before.before.before.before.before.before.before.args.verdict known.0.0 known.1) c.before.before.put-refusal.ensures
 
-pub put-verdict-spec : {M : Type 1} → statement M
-put-verdict-spec =
+pub put_verdict_spec : {M : Type 1} → statement M
+put_verdict_spec =
     tie.close
     (tie.spec
     enum_told

@@ -56,8 +56,8 @@ same_length c = rw (c.before.loop.invariant.1, length_sets)
 returns : tie.Need-returns invariant-loop decreases-loop
 returns c = record { next = refl; written = c.before.loop.invariant.1 ∙ rw (take_all c.before.loop.i c.before.before.args.words.now (omega arith)); narrow = omega arith }
 
-pub put-words-spec : {M : Type 1} → statement M
-put-words-spec =
+pub put_words_spec : {M : Type 1} → statement M
+put_words_spec =
     tie.close
     (tie.spec
     invariant-loop

@@ -57,8 +57,8 @@ returns-4 c =
     let cast = c.before.before.before in
     time-words c.before.before.before.before.before.before.before.before.args.field known.0.0 _ known.1 (c.before.before.word-of2.ensures ∙ ap word (to_z-of_z {w = w64} (cast-word-of cast) ∙ to_z-of_z {w = w32} (record { sfits = cast.struct_told.given.0.1 })))
 
-pub value-words-spec : {M : Type 1} → statement M
-value-words-spec =
+pub value_words_spec : {M : Type 1} → statement M
+value_words_spec =
     tie.close
     (tie.spec
     enum-known-field

@@ -31,7 +31,7 @@ magnitude-requires-2 c κs = search rules
 returns-2 : tie.Need-returns-2
 returns-2 c = c.magnitude2.ensures ∙ ap nat_abs (to_z-of_z c.before.before.ranges.number) ∙ other_word c.before.before.args.number (not_negative c.before.before.args.number c.before.before.ranges.number c.before.if1.false)
 
-pub word-of-spec : {M : Type 1} → statement M
-word-of-spec =
+pub word_of_spec : {M : Type 1} → statement M
+word_of_spec =
     tie.close
     (tie.spec magnitude-requires sub-result sub-result-2 returns magnitude-requires-2 returns-2)

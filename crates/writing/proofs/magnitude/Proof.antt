@@ -27,6 +27,6 @@ cast-result-2 c = rw (to_z-of_z c.before.ranges.number) (yes_non_neg (not_negati
 returns-2 : tie.Need-returns-2
 returns-2 c = ap nat_abs (to_z-of_z c.before.ranges.number)
 
-pub magnitude-spec : {M : Type 1} → statement M
-magnitude-spec =
+pub magnitude_spec : {M : Type 1} → statement M
+magnitude_spec =
     tie.close (tie.spec sub-result cast-result add-result returns cast-result-2 returns-2)

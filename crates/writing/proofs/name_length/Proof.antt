@@ -45,8 +45,8 @@ loop-again c =
 returns-2 : tie.Need-returns-2 invariant-loop decreases-loop
 returns-2 c = (omega arith, let e : c.before.loop.auto ≡ 0 = omega arith in rw e at c.before.loop.invariant.1 ∙ kept-none c.before.before.args.names.now c.before.before.args.start)
 
-pub name-length-spec : {M : Type 1} → statement M
-name-length-spec =
+pub name_length_spec : {M : Type 1} → statement M
+name_length_spec =
     tie.close
     (tie.spec
     invariant-loop

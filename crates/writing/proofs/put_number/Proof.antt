@@ -19,5 +19,5 @@ same_length c = search rules
 returns : tie.Need-returns
 returns c = then c.before.before.before.before.before.before.put-digits.ensures c.before.before.put_byte.ensures
 
-pub put-number-spec : {M : Type 1} → statement M
-put-number-spec = tie.close (tie.spec put-digits-requires put-byte-requires same_length returns)
+pub put_number_spec : {M : Type 1} → statement M
+put_number_spec = tie.close (tie.spec put-digits-requires put-byte-requires same_length returns)

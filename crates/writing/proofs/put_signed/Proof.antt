@@ -51,8 +51,8 @@ returns-2 c =
     let put = c.before.before.put-number2.ensures in
     at_most 22 (spelled (no_minus a.number m.result a.end is above) put) (omega (arith, put.narrow, ap length (no_minus a.number m.result a.end is above)))
 
-pub put-signed-spec : {M : Type 1} → statement M
-put-signed-spec =
+pub put_signed_spec : {M : Type 1} → statement M
+put_signed_spec =
     tie.close
     (tie.spec
     put-byte-requires

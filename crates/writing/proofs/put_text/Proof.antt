@@ -50,8 +50,8 @@ same_length c = rw (c.before.loop.invariant.1, length_sets)
 returns : tie.Need-returns invariant-loop decreases-loop
 returns c = record { next = refl; written = c.before.loop.invariant.1 ∙ rw (take_all c.before.loop.i c.before.before.args.text.now (omega arith)); narrow = omega arith }
 
-pub put-text-spec : {M : Type 1} → statement M
-put-text-spec =
+pub put_text_spec : {M : Type 1} → statement M
+put_text_spec =
     tie.close
     (tie.spec
     invariant-loop

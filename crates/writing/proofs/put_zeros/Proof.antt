@@ -52,8 +52,8 @@ returns c =
       narrow = rw length-replicate (omega arith);
     }
 
-pub put-zeros-spec : {M : Type 1} → statement M
-put-zeros-spec =
+pub put_zeros_spec : {M : Type 1} → statement M
+put_zeros_spec =
     tie.close
     (tie.spec
     invariant-loop

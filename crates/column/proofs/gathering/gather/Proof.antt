@@ -58,8 +58,8 @@ returns-3 c =
     let spanned = c.before.before.before.before.before.states-span.ensures in
     given_gathered s.args.p.now s.args.sets s.requires.0 s.args.entry s.requires.1 v.0 _ spanned _ v.1 _ _ _ _ c.before.before.gather-states.ensures
 
-pub gather-spec : {M : Type 1} → statement M
-gather-spec =
+pub gather_spec : {M : Type 1} → statement M
+gather_spec =
     tie.close
     (tie.spec
     array-read-role

@@ -75,8 +75,8 @@ returns-4 c =
     let s = c.before.before.before.before.before.before.before.before.before.before.before.before.before.before in
     equal_all s.args.p.now s.args.sets s.requires.0 s.args.entry s.requires.1 s.requires.2 s.args.request s.args.column.now s.requires.3 (omega arith) _ _ c.before.before.before.before.before.before.gather-run.ensures (not-false _ c.before.before.before.if2.false) (omega arith) _ refl
 
-pub gather-equal-spec : {M : Type 1} → statement M
-gather-equal-spec =
+pub gather_equal_spec : {M : Type 1} → statement M
+gather_equal_spec =
     tie.close
     (tie.spec
     mul-count

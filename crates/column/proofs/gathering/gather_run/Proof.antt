@@ -90,8 +90,8 @@ returns-3 c =
     let ends = rw w.ensures at (leb-true (s.args.request.offset + w.result) s.args.run.size (sym c.before.before.before.before.before.before.before.before.before.ends-in.ensures ∙ not-false _ c.before.before.before.before.before.before.before.before.if2.false)) in
     all_gathered s.args.p.now s.args.request s.args.run s.args.column.now s.requires.0 s.requires.1 _ _ g e c.before.before.before.before.before.before.before.before.before.before.before.if1.false ends _ c.before.before.store-fields.ensures
 
-pub gather-run-spec : {M : Type 1} → statement M
-gather-run-spec =
+pub gather_run_spec : {M : Type 1} → statement M
+gather_run_spec =
     tie.close
     (tie.spec
     greater-requires

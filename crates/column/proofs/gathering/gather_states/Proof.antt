@@ -167,8 +167,8 @@ returns-3 c =
     let ns = variable_lengths (states_from s.args.p.now s.args.span.place s.args.span.count) s.args.kind in
     too_few s.args.p.now s.args.entry s.args.request s.args.begin ns s.args.column.now s.requires.0 c.before.before.loop.invariant.2 (no_rest _ _ _ _ _ (omega arith)) (omega arith) _ c.refuse2.ensures
 
-pub gather-states-spec : {M : Type 1} → statement M
-gather-states-spec =
+pub gather_states_spec : {M : Type 1} → statement M
+gather_states_spec =
     tie.close
     (tie.spec
     invariant-loop

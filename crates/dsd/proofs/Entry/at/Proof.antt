@@ -58,8 +58,8 @@ returns-2 c =
     read_entry entry.args.p.now (λ k. (c.before.before.before.before.before.before.before.before.shared-slice-known.given k).fits) entry.args.start entry.requires.0 c.before.before.before.before.number_at.ensures c.before.before.before.number-at2.ensures
     c.before.before.number-at3.ensures c.before.number-at4.ensures c.role-of-name.ensures
 
-pub at-spec : {M : Type 1} → statement M
-at-spec =
+pub at_spec : {M : Type 1} → statement M
+at_spec =
     tie.close
     (tie.spec
     shared-slice-read-if1

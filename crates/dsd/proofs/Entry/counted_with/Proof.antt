@@ -18,5 +18,5 @@ returns c = rw (sym c.before.is-non-empty.ensures ∙ c.if1.true)
 returns-2 : tie.Need-returns-2
 returns-2 c = rw (sym c.before.is-non-empty.ensures ∙ c.if1.false) (sym (add-zero c.before.before.args.counted))
 
-pub counted-with-spec : {M : Type 1} → statement M
-counted-with-spec = tie.close (tie.spec is-non-empty-requires add-result returns returns-2)
+pub counted_with_spec : {M : Type 1} → statement M
+counted_with_spec = tie.close (tie.spec is-non-empty-requires add-result returns returns-2)

@@ -23,5 +23,5 @@ returns-3 c =
     let self = c.before.before.before.before.before.args.self in
     rw (ne_eqb self.ds_type 77 c.before.before.before.if1.false, ne_eqb self.ds_type 65 c.before.if2.false) (sym (or_false (eqb self.ds_type 71)))
 
-pub is-data-spec : {M : Type 1} → statement M
-is-data-spec = tie.close (tie.spec returns returns-2 returns-3)
+pub is_data_spec : {M : Type 1} → statement M
+is_data_spec = tie.close (tie.spec returns returns-2 returns-3)

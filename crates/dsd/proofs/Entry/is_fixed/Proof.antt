@@ -37,5 +37,5 @@ returns-4 c =
     rw (from_one (number_from self.record_size), c.before.before.before.before.before.if1.false, le-leb 1 self.record_size.magnitude (omega arith))
     (by_quotient self.count.magnitude self.record_size.magnitude self.size.magnitude c.before.before.before.before.if2.false c.before.before.if3.false)
 
-pub is-fixed-spec : {M : Type 1} → statement M
-is-fixed-spec = tie.close (tie.spec returns returns-2 rem-if3 returns-3 div-result returns-4)
+pub is_fixed_spec : {M : Type 1} → statement M
+is_fixed_spec = tie.close (tie.spec returns returns-2 rem-if3 returns-3 div-result returns-4)

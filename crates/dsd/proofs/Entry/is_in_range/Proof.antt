@@ -60,8 +60,8 @@ returns-5 c =
       not-false self.record_size.minus c.before.if4.false,
     )
 
-pub is-in-range-spec : {M : Type 1} → statement M
-is-in-range-spec =
+pub is_in_range_spec : {M : Type 1} → statement M
+is_in_range_spec =
     tie.close
     (tie.spec
     is-negative-requires

@@ -11,5 +11,5 @@ is-data-requires c κs = search rules
 returns : tie.Need-returns
 returns c = search (non_empty_by, rules)
 
-pub is-non-empty-spec : {M : Type 1} → statement M
-is-non-empty-spec = tie.close (tie.spec is-data-requires returns)
+pub is_non_empty_spec : {M : Type 1} → statement M
+is_non_empty_spec = tie.close (tie.spec is-data-requires returns)

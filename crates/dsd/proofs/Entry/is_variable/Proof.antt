@@ -49,6 +49,6 @@ returns-7 c =
     rw (view_named self, lt-ltb 0 self.name_role (omega arith))
     (all_pass self c.before.before.before.before.before.before.before.before.before.before.before.if1.false c.before.before.before.before.before.before.before.before.before.if2.false (not-false self.record_size.minus c.before.before.before.before.before.before.before.if3.false) c.before.before.before.before.before.if4.false c.before.before.before.if5.false)
 
-pub is-variable-spec : {M : Type 1} → statement M
-is-variable-spec =
+pub is_variable_spec : {M : Type 1} → statement M
+is_variable_spec =
     tie.close (tie.spec returns returns-2 returns-3 returns-4 returns-5 returns-6 returns-7)

@@ -30,5 +30,5 @@ returns-4 c =
     let self = c.before.before.before.before.before.before.before.args.self in
     rw (is_zero (number_from self.offset), is_zero (number_from self.size), is_zero (number_from self.count), is_zero (number_from self.record_size), eq-eqb self.offset.magnitude 0 c.before.before.before.before.before.if1.false, eq-eqb self.size.magnitude 0 c.before.before.before.if2.false, eq-eqb self.count.magnitude 0 c.before.if3.false)
 
-pub is-zero-spec : {M : Type 1} → statement M
-is-zero-spec = tie.close (tie.spec returns returns-2 returns-3 returns-4)
+pub is_zero_spec : {M : Type 1} → statement M
+is_zero_spec = tie.close (tie.spec returns returns-2 returns-3 returns-4)

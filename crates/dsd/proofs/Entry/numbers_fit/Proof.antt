@@ -43,8 +43,8 @@ returns-4 c =
     ∙ fits-set (view_of c.before.before.before.before.before.before.before.args.self) c.before.before.before.before.before.if1.false (sym is-data.ensures ∙ not-false is-data.result c.before.before.before.if2.false)
     (sym c.before.before.is_in_range.ensures ∙ not-false c.before.before.is_in_range.result c.before.if3.false)
 
-pub numbers-fit-spec : {M : Type 1} → statement M
-numbers-fit-spec =
+pub numbers_fit_spec : {M : Type 1} → statement M
+numbers_fit_spec =
     tie.close
     (tie.spec
     is-zero-requires

@@ -21,5 +21,5 @@ returns-3 c =
     let self = c.before.before.before.before.args.self in
     rw (le-leb self.offset.magnitude 9223372036854775807 c.before.before.if1.false, le-leb self.size.magnitude 9223372036854775807 c.if2.false)
 
-pub over-spec : {M : Type 1} → statement M
-over-spec = tie.close (tie.spec returns returns-2 returns-3)
+pub over_spec : {M : Type 1} → statement M
+over_spec = tie.close (tie.spec returns returns-2 returns-3)

@@ -21,5 +21,5 @@ returns-3 c = role_states c.before.before.before.before.before.before.args.self 
 returns-4 : tie.Need-returns-4
 returns-4 c = role_none c.before.before.before.before.before.before.args.self (sym c.before.before.before.before.before.is-variable.ensures ∙ c.before.before.before.before.if1.false) c.if3.false
 
-pub role-spec : {M : Type 1} → statement M
-role-spec = tie.close (tie.spec is-variable-requires returns returns-2 returns-3 returns-4)
+pub role_spec : {M : Type 1} → statement M
+role_spec = tie.close (tie.spec is-variable-requires returns returns-2 returns-3 returns-4)

@@ -37,7 +37,7 @@ returns-4 c =
     let entry = c.before.before.before.before.before.before.before in
     c.is-variable.ensures ∙ set_variable (view_of entry.args.self) entry.requires c.before.before.before.before.before.if1.false c.before.before.before.if2.false (sym c.before.before.is-fixed.ensures ∙ c.before.if3.false)
 
-pub set-fits-spec : {M : Type 1} → statement M
-set-fits-spec =
+pub set_fits_spec : {M : Type 1} → statement M
+set_fits_spec =
     tie.close
     (tie.spec returns returns-2 is-fixed-requires returns-3 is-variable-requires returns-4)

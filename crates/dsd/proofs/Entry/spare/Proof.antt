@@ -7,5 +7,5 @@ use Rattle.dsd.proofs.Entry.spare.Tie as tie
 returns : tie.Need-returns
 returns c = held-spare
 
-pub spare-spec : {M : Type 1} → statement M
-spare-spec = tie.close (tie.spec returns)
+pub spare_spec : {M : Type 1} → statement M
+spare_spec = tie.close (tie.spec returns)

@@ -8,5 +8,5 @@ returns : tie.Need-returns
 unfolding pixel_answer_is
 returns c = search rules
 
-pub refuse-spec : {M : Type 1} → statement M
-refuse-spec = tie.close (tie.spec returns)
+pub refuse_spec : {M : Type 1} → statement M
+refuse_spec = tie.close (tie.spec returns)

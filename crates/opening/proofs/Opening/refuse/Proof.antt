@@ -11,5 +11,5 @@ none-requires c κs = search rules
 returns : tie.Need-returns
 returns c = λ j. record { verdict = Refused c.before.args.refusal; dsds = 0; sets = c.none.ensures j }
 
-pub refuse-spec : {M : Type 1} → statement M
-refuse-spec = tie.close (tie.spec none-requires returns)
+pub refuse_spec : {M : Type 1} → statement M
+refuse_spec = tie.close (tie.spec none-requires returns)

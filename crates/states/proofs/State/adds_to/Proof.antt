@@ -22,5 +22,5 @@ returns-3 : tie.Need-returns-3
 unfolding state_is
 returns-3 c = (count-attached (state_is c.before.before.before.before.before.args.self) _ c.before.before.before.if1.false c.before.if2.false, omega arith)
 
-pub adds-to-spec : {M : Type 1} → statement M
-adds-to-spec = tie.close (tie.spec returns returns-2 cast-result returns-3)
+pub adds_to_spec : {M : Type 1} → statement M
+adds_to_spec = tie.close (tie.spec returns returns-2 cast-result returns-3)

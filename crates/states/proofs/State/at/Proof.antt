@@ -52,8 +52,8 @@ returns c =
       record_length = (c.unsigned2.ensures.0 ∙ sym (unsigned-part b at 1387 1383 4 (omega arith))) j;
     }
 
-pub at-spec : {M : Type 1} → statement M
-at-spec =
+pub at_spec : {M : Type 1} → statement M
+at_spec =
     tie.close
     (tie.spec
     add-t3

@@ -33,5 +33,5 @@ unfolding state_is
 returns-6 c =
     fits-filled (state_is c.before.before.before.before.before.before.before.before.before.before.before.args.self) c.before.before.before.before.before.before.before.before.before.if1.false (omega arith) c.before.before.before.before.before.if3.false c.before.before.before.if4.false c.before.if5.false
 
-pub fits-spec : {M : Type 1} → statement M
-fits-spec = tie.close (tie.spec returns returns-2 returns-3 returns-4 returns-5 returns-6)
+pub fits_spec : {M : Type 1} → statement M
+fits_spec = tie.close (tie.spec returns returns-2 returns-3 returns-4 returns-5 returns-6)

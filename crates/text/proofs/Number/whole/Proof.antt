@@ -17,5 +17,5 @@ returns c = minus-whole c.before.before.args.self c.before.before.requires c.if1
 returns-2 : tie.Need-returns-2
 returns-2 c = plus_whole c.before.before.args.self c.before.before.requires c.if1.false
 
-pub whole-spec : {M : Type 1} → statement M
-whole-spec = tie.close (tie.spec cast-value sub-result returns returns-2)
+pub whole_spec : {M : Type 1} → statement M
+whole_spec = tie.close (tie.spec cast-value sub-result returns returns-2)

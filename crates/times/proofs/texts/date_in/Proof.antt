@@ -37,8 +37,8 @@ returns c =
     let pre = c.before.before.before.before.before.requires in
     date-read t pre.0 (form t pre.1) _ _ _ _ c.before.before.before.two_digits.ensures.0 c.before.before.two-digits2.ensures.0 c.month-in.ensures c.before.two-digits3.ensures.0
 
-pub date-in-spec : {M : Type 1} → statement M
-date-in-spec =
+pub date_in_spec : {M : Type 1} → statement M
+date_in_spec =
     tie.close
     (tie.spec
     two-digits-requires

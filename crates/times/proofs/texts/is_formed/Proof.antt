@@ -71,8 +71,8 @@ returns : tie.Need-returns invariant-loop decreases-loop
 unfolding formed
 returns c = all_short c.before.before.before.args.text.now c.before.loop.i c.before.loop.short (omega arith) (omega arith) c.before.loop.invariant.1
 
-pub is-formed-spec : {M : Type 1} → statement M
-is-formed-spec =
+pub is_formed_spec : {M : Type 1} → statement M
+is_formed_spec =
     tie.close
     (tie.spec
     invariant-loop

@@ -59,8 +59,8 @@ returns c =
     moment_read t pre.0 (form t pre.1) _ _ _ _ _ _ _ c.before.before.before.before.before.before.date-in.ensures c.before.before.before.before.before.two_digits.ensures.0 c.before.before.before.before.two-digits2.ensures.0 c.before.before.before.two-digits3.ensures.0
     c.before.before.two-digits4.ensures.0 c.before.two-digits5.ensures.0 c.two-digits6.ensures.0
 
-pub moment-in-spec : {M : Type 1} → statement M
-moment-in-spec =
+pub moment_in_spec : {M : Type 1} → statement M
+moment_in_spec =
     tie.close
     (tie.spec
     date-in-requires

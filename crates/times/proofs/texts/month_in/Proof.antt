@@ -30,8 +30,8 @@ returns c =
     c.month-of-name.ensures
     ∙ rw (name.0, three_letters t c.before.before.before.before.before.before.requires) (month-numbered (get_or t 3 0) (get_or t 4 0) (get_or t 5 0) name.1.0 name.1.1.0 name.1.1.1)
 
-pub month-in-spec : {M : Type 1} → statement M
-month-in-spec =
+pub month_in_spec : {M : Type 1} → statement M
+month_in_spec =
     tie.close
     (tie.spec
     shared-slice-read-number-of

@@ -60,8 +60,8 @@ returns-12 c = sym (ap month_numbered c.match.keys12)
 returns-13 : tie.Need-returns-13
 returns-13 c = no_number c.before.args.name (twelve c.before.args.name c.match.rest.0.0.0.0.0.0.0.0.0.0.0.1 c.match.rest.0.0.0.0.0.0.0.0.0.0.1 c.match.rest.0.0.0.0.0.0.0.0.0.1 c.match.rest.0.0.0.0.0.0.0.0.1 c.match.rest.0.0.0.0.0.0.0.1 c.match.rest.0.0.0.0.0.0.1 c.match.rest.0.0.0.0.0.1 c.match.rest.0.0.0.0.1 c.match.rest.0.0.0.1 c.match.rest.0.0.1 c.match.rest.0.1 c.match.rest.1)
 
-pub month-of-name-spec : {M : Type 1} → statement M
-month-of-name-spec =
+pub month_of_name_spec : {M : Type 1} → statement M
+month_of_name_spec =
     tie.close
     (tie.spec
     returns

@@ -43,8 +43,8 @@ returns-12 : tie.Need-returns-12
 returns-12 c =
     sym (named-number c.before.args.month 12 (last_month c.before.args.month c.before.requires.0 c.before.requires.1 c.match.rest.0.0.0.0.0.0.0.0.0.0.1 c.match.rest.0.0.0.0.0.0.0.0.0.1 c.match.rest.0.0.0.0.0.0.0.0.1 c.match.rest.0.0.0.0.0.0.0.1 c.match.rest.0.0.0.0.0.0.1 c.match.rest.0.0.0.0.0.1 c.match.rest.0.0.0.0.1 c.match.rest.0.0.0.1 c.match.rest.0.0.1 c.match.rest.0.1 c.match.rest.1) (omega arith) (omega arith))
 
-pub name-of-spec : {M : Type 1} → statement M
-name-of-spec =
+pub name_of_spec : {M : Type 1} → statement M
+name_of_spec =
     tie.close
     (tie.spec
     returns

@@ -137,8 +137,8 @@ returns c =
     ∷ second-digit (m.microsecond % 10000 % 100) (omega arith) c.second10.ensures c.before.before.before.before.before.before.before.before.before.before.before.before.before.before.before.before.before.before.before.before.before.two-digits9.ensures j ∷ [])
     ∙ as_written m v.date.january v.date.december
 
-pub text-of-spec : {M : Type 1} → statement M
-text-of-spec =
+pub text_of_spec : {M : Type 1} → statement M
+text_of_spec =
     tie.close
     (tie.spec
     name-of-requires

@@ -25,6 +25,6 @@ returns : tie.Need-returns
 unfolding pair_of
 returns c = refl
 
-pub two-digits-spec : {M : Type 1} → statement M
-two-digits-spec =
+pub two_digits_spec : {M : Type 1} → statement M
+two_digits_spec =
     tie.close (tie.spec mul-result add-result mul-result-2 mul-result-3 sub-result returns)

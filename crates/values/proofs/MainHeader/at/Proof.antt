@@ -31,8 +31,8 @@ returns c =
       sizes = c.read-sizes.ensures j;
     }
 
-pub at-spec : {M : Type 1} → statement M
-at-spec =
+pub at_spec : {M : Type 1} → statement M
+at_spec =
     tie.close
     (tie.spec
     read-identity-requires

@@ -39,8 +39,8 @@ loop-again c = omega arith
 returns-3 : tie.Need-returns-3 invariant-loop decreases-loop
 returns-3 c = tt
 
-pub show-entries-spec : {M : Type 1} → statement M
-show-entries-spec =
+pub show_entries_spec : {M : Type 1} → statement M
+show_entries_spec =
     tie.close
     (tie.spec
     invariant-loop

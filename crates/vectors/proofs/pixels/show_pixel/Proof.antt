@@ -38,8 +38,8 @@ print-words-requires c κs = ((omega arith, omega arith), (omega arith, omega (a
 returns : tie.Need-returns
 returns c = search rules
 
-pub show-pixel-spec : {M : Type 1} → statement M
-show-pixel-spec =
+pub show_pixel_spec : {M : Type 1} → statement M
+show_pixel_spec =
     tie.close
     (tie.spec
     slice-aggregate-ambrothel-extinction-at

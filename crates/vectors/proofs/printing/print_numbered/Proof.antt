@@ -46,8 +46,8 @@ write-all-requires c κs = search rules
 returns : tie.Need-returns
 returns c = search rules
 
-pub print-numbered-spec : {M : Type 1} → statement M
-print-numbered-spec =
+pub print_numbered_spec : {M : Type 1} → statement M
+print_numbered_spec =
     tie.close
     (tie.spec
     slice-aggregate-put-text

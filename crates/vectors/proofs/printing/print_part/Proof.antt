@@ -34,8 +34,8 @@ print-words-requires c κs = ((omega arith, omega arith), (omega arith, rw (← 
 returns : tie.Need-returns
 returns c = search rules
 
-pub print-part-spec : {M : Type 1} → statement M
-print-part-spec =
+pub print_part_spec : {M : Type 1} → statement M
+print_part_spec =
     tie.close
     (tie.spec
     array-write-line

@@ -40,8 +40,8 @@ write-all-requires c κs = search rules
 returns : tie.Need-returns
 returns c = search rules
 
-pub print-text-spec : {M : Type 1} → statement M
-print-text-spec =
+pub print_text_spec : {M : Type 1} → statement M
+print_text_spec =
     tie.close
     (tie.spec
     slice-aggregate-put-text

@@ -44,8 +44,8 @@ write-all-requires c κs = search rules
 returns : tie.Need-returns
 returns c = search rules
 
-pub print-words-spec : {M : Type 1} → statement M
-print-words-spec =
+pub print_words_spec : {M : Type 1} → statement M
+print_words_spec =
     tie.close
     (tie.spec
     slice-aggregate-put-text

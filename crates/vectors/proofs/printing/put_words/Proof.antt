@@ -41,8 +41,8 @@ same_length c = c.before.loop.invariant.1.1.1
 returns : tie.Need-returns invariant-loop decreases-loop
 returns c = (omega arith, omega arith)
 
-pub put-words-spec : {M : Type 1} → statement M
-put-words-spec =
+pub put_words_spec : {M : Type 1} → statement M
+put_words_spec =
     tie.close
     (tie.spec
     invariant-loop

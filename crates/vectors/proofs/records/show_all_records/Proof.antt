@@ -54,8 +54,8 @@ show-records-requires-3 c κs = search rules
 returns-3 : tie.Need-returns-3 invariant-loop decreases-loop
 returns-3 c = tt
 
-pub show-all-records-spec : {M : Type 1} → statement M
-show-all-records-spec =
+pub show_all_records_spec : {M : Type 1} → statement M
+show_all_records_spec =
     tie.close
     (tie.spec
     invariant-loop

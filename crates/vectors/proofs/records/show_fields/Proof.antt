@@ -33,8 +33,8 @@ loop-again c = omega arith
 returns-2 : tie.Need-returns-2 invariant-loop decreases-loop
 returns-2 c = tt
 
-pub show-fields-spec : {M : Type 1} → statement M
-show-fields-spec =
+pub show_fields_spec : {M : Type 1} → statement M
+show_fields_spec =
     tie.close
     (tie.spec
     invariant-loop

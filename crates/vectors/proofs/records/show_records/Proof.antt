@@ -36,8 +36,8 @@ loop-again c = omega arith
 returns-3 : tie.Need-returns-3 invariant-loop decreases-loop
 returns-3 c = tt
 
-pub show-records-spec : {M : Type 1} → statement M
-show-records-spec =
+pub show_records_spec : {M : Type 1} → statement M
+show_records_spec =
     tie.close
     (tie.spec
     invariant-loop

@@ -20,7 +20,7 @@ same_length c = search rules
 returns : tie.Need-returns
 returns c = then c.before.before.before.before.before.before.before.before.before.before.put-words.ensures (then c.before.before.before.before.before.before.put-words2.ensures c.before.before.put-words3.ensures)
 
-pub put-arrays-spec : {M : Type 1} → statement M
-put-arrays-spec =
+pub put_arrays_spec : {M : Type 1} → statement M
+put_arrays_spec =
     tie.close
     (tie.spec put-words-requires put-words-requires-2 put-words-requires-3 same_length returns)

@@ -37,8 +37,8 @@ returns c =
     (word_kept start.args.header.leap_sign c.before.before.before.before.before.before.before.struct-told3.given.1.1.1.1.0.1 c.before.before.before.before.before.before.word-of3.ensures))
     c.before.before.put-words.ensures
 
-pub put-clock-spec : {M : Type 1} → statement M
-put-clock-spec =
+pub put_clock_spec : {M : Type 1} → statement M
+put_clock_spec =
     tie.close
     (tie.spec
     word-of-requires

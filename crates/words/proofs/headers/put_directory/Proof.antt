@@ -15,5 +15,5 @@ returns : tie.Need-returns
 unfolding directory_words
 returns c = c.before.before.put-directory-numbers.ensures
 
-pub put-directory-spec : {M : Type 1} → statement M
-put-directory-spec = tie.close (tie.spec put-directory-numbers-requires same_length returns)
+pub put_directory_spec : {M : Type 1} → statement M
+put_directory_spec = tie.close (tie.spec put-directory-numbers-requires same_length returns)

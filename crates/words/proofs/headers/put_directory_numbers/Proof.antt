@@ -40,8 +40,8 @@ returns c =
     let put = then judged.put-verdict.ensures (then counted.put-words.ensures (then typed.put-bytes.ensures (then filled.put-arrays.ensures (then measured.put-numbers.ensures c.before.before.put-words2.ensures)))) in
     at_most 772 put (omega (arith, put.narrow, typed.before.put-bytes-arg2.given, filled.before.put-arrays-arg4.given, filled.before.before.put-arrays-arg3.given, filled.before.before.before.put-arrays-arg2.given, measured.before.put-numbers-arg2.given, c.before.before.before.put-words-arg3.given))
 
-pub put-directory-numbers-spec : {M : Type 1} → statement M
-put-directory-numbers-spec =
+pub put_directory_numbers_spec : {M : Type 1} → statement M
+put_directory_numbers_spec =
     tie.close
     (tie.spec
     put-verdict-requires

@@ -19,5 +19,5 @@ returns c =
     let put = c.before.before.put-two-texts.ensures in
     at_most 11520 put (omega (arith, put.narrow))
 
-pub put-directory-texts-spec : {M : Type 1} → statement M
-put-directory-texts-spec = tie.close (tie.spec put-two-texts-requires same_length returns)
+pub put_directory_texts_spec : {M : Type 1} → statement M
+put_directory_texts_spec = tie.close (tie.spec put-two-texts-requires same_length returns)

@@ -31,8 +31,8 @@ returns : tie.Need-returns
 unfolding header_words
 returns c = then c.before.before.before.before.before.before.before.before.before.before.before.before.before.before.before.before.before.before.before.before.before.before.put-verdict.ensures (then c.before.before.before.before.before.before.before.before.before.before.before.before.before.before.before.before.before.before.put-identity.ensures (then c.before.before.before.before.before.before.before.before.before.before.before.before.before.before.put-sensing.ensures (then c.before.before.before.before.before.before.before.before.before.before.put-orbit.ensures (then c.before.before.before.before.before.before.put-clock.ensures c.before.before.put-sizes.ensures))))
 
-pub put-header-spec : {M : Type 1} → statement M
-put-header-spec =
+pub put_header_spec : {M : Type 1} → statement M
+put_header_spec =
     tie.close
     (tie.spec
     put-verdict-requires

@@ -28,8 +28,8 @@ returns c =
     let put = then c.before.before.before.before.before.before.before.before.before.before.before.before.before.before.before.before.before.before.before.before.before.before.before.before.before.before.before.before.before.put-identity-texts.ensures (then c.before.before.before.before.before.before.before.before.before.before.before.before.before.before.before.before.before.before.before.before.put-two-texts.ensures (then c.before.before.before.before.before.before.before.before.before.before.before.put-two-texts2.ensures c.before.before.put-two-texts3.ensures)) in
     at_most 289 put (omega (arith, put.narrow))
 
-pub put-header-texts-spec : {M : Type 1} → statement M
-put-header-texts-spec =
+pub put_header_texts_spec : {M : Type 1} → statement M
+put_header_texts_spec =
     tie.close
     (tie.spec
     put-identity-texts-requires

@@ -21,6 +21,6 @@ same_length c = search rules
 returns : tie.Need-returns
 returns c = spelled (identity_put c.before.before.before.before.before.before.before.args.header) c.before.before.put-words.ensures
 
-pub put-identity-spec : {M : Type 1} → statement M
-put-identity-spec =
+pub put_identity_spec : {M : Type 1} → statement M
+put_identity_spec =
     tie.close (tie.spec cast-t5 slice-aggregate-put-words put-words-requires same_length returns)

@@ -25,8 +25,8 @@ returns c =
     let put = then c.before.before.before.before.before.before.before.before.before.before.before.before.before.before.before.before.before.before.before.before.put-two-texts.ensures (then c.before.before.before.before.before.before.before.before.before.before.before.put-two-texts2.ensures c.before.before.put-two-texts3.ensures) in
     at_most 152 put (omega (arith, put.narrow))
 
-pub put-identity-texts-spec : {M : Type 1} → statement M
-put-identity-texts-spec =
+pub put_identity_texts_spec : {M : Type 1} → statement M
+put_identity_texts_spec =
     tie.close
     (tie.spec
     put-two-texts-requires

@@ -20,6 +20,6 @@ returns c =
     let told = c.before.before.before.before.before.struct_told.given in
     spelled (orbit_put c.before.before.before.before.before.before.before.args.header told.1.0.1 told.1.1.0.1 told.1.1.1.0.1 told.1.1.1.1.0.1 told.1.1.1.1.1.0.1 told.1.1.1.1.1.1.0.1 told.1.1.1.1.1.1.1.0.1) c.before.before.put-numbers.ensures
 
-pub put-orbit-spec : {M : Type 1} → statement M
-put-orbit-spec =
+pub put_orbit_spec : {M : Type 1} → statement M
+put_orbit_spec =
     tie.close (tie.spec slice-aggregate-put-numbers put-numbers-requires same_length returns)

@@ -37,8 +37,8 @@ returns c =
     (word_kept start.args.header.abs_orbit c.before.before.before.before.before.before.struct-told3.given.1.1.1.1.1.0.1 c.before.before.before.before.before.word-of3.ensures))
     c.before.before.put-words.ensures
 
-pub put-sensing-spec : {M : Type 1} → statement M
-put-sensing-spec =
+pub put_sensing_spec : {M : Type 1} → statement M
+put_sensing_spec =
     tie.close
     (tie.spec
     cast-t5

@@ -45,8 +45,8 @@ returns c =
     (word_kept start.args.header.num_data_sets c.before.before.before.before.before.before.struct-told5.given.1.1.1.1.1.0.1 c.before.before.before.before.before.word-of5.ensures))
     c.before.before.put-words.ensures
 
-pub put-sizes-spec : {M : Type 1} → statement M
-put-sizes-spec =
+pub put_sizes_spec : {M : Type 1} → statement M
+put_sizes_spec =
     tie.close
     (tie.spec
     cast-t5

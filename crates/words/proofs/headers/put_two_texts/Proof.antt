@@ -17,5 +17,5 @@ same_length c = search rules
 returns : tie.Need-returns
 returns c = then c.before.before.before.before.before.before.put-text.ensures c.before.before.put-text2.ensures
 
-pub put-two-texts-spec : {M : Type 1} → statement M
-put-two-texts-spec = tie.close (tie.spec put-text-requires put-text-requires-2 same_length returns)
+pub put_two_texts_spec : {M : Type 1} → statement M
+put_two_texts_spec = tie.close (tie.spec put-text-requires put-text-requires-2 same_length returns)

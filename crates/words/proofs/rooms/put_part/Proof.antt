@@ -30,8 +30,8 @@ same-length-2 c = search rules
 returns-3 : tie.Need-returns-3
 returns-3 c = both_written c.before.before.before.before.before.before.put-words.ensures c.before.before.put-text.ensures (omega arith) (omega arith)
 
-pub put-part-spec : {M : Type 1} → statement M
-put-part-spec =
+pub put_part_spec : {M : Type 1} → statement M
+put_part_spec =
     tie.close
     (tie.spec
     returns

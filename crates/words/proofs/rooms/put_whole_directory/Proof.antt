@@ -41,8 +41,8 @@ returns-3 c =
     let start = c.before.before.before.before.before.before.before.before.before.before.before.before in
     both_written c.before.before.before.before.before.before.put-directory.ensures c.before.before.put-directory-texts.ensures (rw (words_long start) (omega (arith, c.before.before.before.before.before.before.before.before.before.if1.false))) (rw (texts_long start) (omega (arith, c.before.before.before.before.before.before.before.before.if2.false)))
 
-pub put-whole-directory-spec : {M : Type 1} → statement M
-put-whole-directory-spec =
+pub put_whole_directory_spec : {M : Type 1} → statement M
+put_whole_directory_spec =
     tie.close
     (tie.spec
     returns

@@ -41,8 +41,8 @@ returns-3 c =
     let start = c.before.before.before.before.before.before.before.before.before.before.before.before in
     both_written c.before.before.before.before.before.before.put-header.ensures c.before.before.put-header-texts.ensures (rw (words_long start) (omega (arith, c.before.before.before.before.before.before.before.before.before.if1.false))) (rw (texts_long start) (omega (arith, c.before.before.before.before.before.before.before.before.if2.false)))
 
-pub put-whole-header-spec : {M : Type 1} → statement M
-put-whole-header-spec =
+pub put_whole_header_spec : {M : Type 1} → statement M
+put_whole_header_spec =
     tie.close
     (tie.spec
     returns
