@@ -1,5 +1,7 @@
 // The reader for C and Rust: every public call, its answer written into rooms that the host lends. `include/ambrothel.h` declares them.
 // A room too short for the answer returns 1, and nothing is written.
+#![tactic(auto)]
+
 ghost use Rattle.std.specs.Prelude.{length};
 ghost use Rattle.layout.specs.Rules.{verdict};
 ghost use Rattle.layout.specs.Records.{sph_place, record_place, part_of};

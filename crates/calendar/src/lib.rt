@@ -1,11 +1,13 @@
 // The Gregorian calendar from 1 January 1980 to 31 December 2099 (document 02, order 7): dates, and the days before them.
+#![tactic(auto)]
+
 ghost use Rattle.std.specs.Prelude.{◌≡◌, ◌≤◌, ◌<◌, T, take};
 ghost use Rattle.layout.specs.Search.{sum};
 ghost use Rattle.calendar.specs.Calendar.{leap, months, valid_date, days_before};
 ghost use Rattle.calendar.specs.Even.{missing, from_on, even_days};
 
 // A date, January being month 1.
-#[derive(Drop)]
+#[derive(Clone, Copy)]
 pub struct Date {
     pub year: u32,
     pub month: u32,

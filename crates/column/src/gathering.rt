@@ -13,7 +13,7 @@ use layout::Verdict;
 use states::{State, StatesSpan};
 
 // What a column asks for: the field of a kind at an offset, of the records from one number up to another.
-#[derive(Drop)]
+#[derive(Clone, Copy)]
 pub struct Request {
     pub from: usize,
     pub to: usize,
@@ -22,7 +22,7 @@ pub struct Request {
 }
 
 // Records of one length that follow each other: the number of the first in its set, where that begins, how many they are, and their length.
-#[derive(Drop)]
+#[derive(Clone, Copy)]
 pub struct Run {
     pub first: usize,
     pub place: usize,

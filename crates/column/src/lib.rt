@@ -1,4 +1,6 @@
 // A column (document 02, order 8): the same field of up to 512 records of one entry, in 32 bits each, with one judgement and one walk.
+#![tactic(auto)]
+
 ghost use Rattle.std.specs.Prelude.{◌≡◌, ◌-◌, ◌≤◌, ◌<◌, length};
 ghost use Rattle.std.proofs.lemmas.List.Edits.{sets};
 ghost use Rattle.layout.specs.Answers.{verdict_is};

@@ -1,4 +1,6 @@
 // The directory of a product (document 01, rules 7 to 14): the numbers of its entries, what is asked of them, and what is answered of all.
+#![tactic(auto)]
+
 ghost use Rattle.std.specs.Prelude.{cond, ◌≡◌, ℕ, ◌+◌, ◌*◌, ◌≤◌, ◌<◌, leb, ltb, length};
 ghost use Rattle.layout.specs.Answers.{verdict_is, directory_of};
 ghost use Rattle.layout.specs.Bytes.{part};
@@ -15,7 +17,7 @@ use values::MainHeader;
 use writing::{put_text, put_zeros};
 
 // The numbers and roles of up to 128 entries held together, unused places zero.
-#[derive(Drop)]
+#[derive(Clone, Copy)]
 pub struct Sets {
     pub entries: usize,
     pub types: [u8; 128],
@@ -79,7 +81,7 @@ pub fn check_text(p: &[u8], dsds: usize, entries: usize) -> Verdict
 
 // What one reading of the entries counts: how many in a row from the first on have an offset and a size within 2^63 - 1 (rule 9), how many in a row
 // have numbers that fit (rule 10), and how many NUM_DATA_SETS counts (rule 11).
-#[derive(Drop)]
+#[derive(Clone, Copy)]
 pub struct Reading {
     pub within: usize,
     pub fitting: usize,

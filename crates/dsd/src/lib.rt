@@ -1,4 +1,6 @@
 // One DSD (document 01, "The DSD" and rules 9 and 10): what it answers, and what is asked of its numbers.
+#![tactic(auto)]
+
 ghost use Rattle.std.specs.Prelude.{◌≡◌, true, not, cond, ◌+◌, ◌≤◌, ◌<◌, pos, length};
 ghost use Rattle.layout.specs.Bytes.{part};
 ghost use Rattle.layout.specs.Lines.{size_of_dsd};
@@ -39,7 +41,7 @@ pub fn is_negative(n: text::Number) -> bool
 }
 
 // What a DSD answers, with the role of its name.
-#[derive(Drop)]
+#[derive(Clone, Copy)]
 pub struct Entry {
     pub ds_type: u8,
     pub offset: text::Number,

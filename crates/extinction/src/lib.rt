@@ -1,4 +1,6 @@
 // GOMOS residual extinction (document 02, order 1): what one pixel of one record of the set EXT_MDS holds. It rests on the public calls of `product`.
+#![tactic(auto)]
+
 ghost use Rattle.std.specs.Prelude.{◌≡◌, ◌+◌, ◌-◌, ◌≤◌, ◌<◌, length};
 ghost use Rattle.layout.specs.Answer.{refusal};
 ghost use Rattle.layout.specs.Search.{find, only};
@@ -24,14 +26,14 @@ const MODELS: usize = 18_701;
 const FLAGS: usize = 23_373;
 
 // A single float, with its bits beside its value, since they are kept for a NaN too.
-#[derive(Drop)]
+#[derive(Clone, Copy)]
 pub struct Single {
     pub value: f32,
     pub bits: u32,
 }
 
 // The time and the quality are the record's, all else is the pixel's. The model is twice its code by 65,535.
-#[derive(Drop)]
+#[derive(Clone, Copy)]
 pub struct Pixel {
     pub time: Time,
     pub quality: i8,
@@ -42,7 +44,7 @@ pub struct Pixel {
     pub flag: u8,
 }
 
-#[derive(Drop)]
+#[derive(Clone, Copy)]
 pub enum PixelAnswer {
     Refused(Refusal),
     Is(Pixel),

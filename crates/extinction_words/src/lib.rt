@@ -1,4 +1,6 @@
 // A pixel of residual extinction as a host gets it: words of 64 bits and a double, put into lent rooms.
+#![tactic(auto)]
+
 ghost use Rattle.std.specs.Prelude.{◌≡◌, ◌∷◌, [], ◌≤◌, length};
 ghost use Rattle.writing.specs.Put.{Put};
 ghost use Rattle.extinction.specs.Extinction.{pixel_answer_is};

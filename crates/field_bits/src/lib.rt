@@ -1,5 +1,7 @@
 // The 32 bits of a field of the kinds 1 sc, 2 uc, 3 ss, 4 us, 5 sl, 6 ul, 7 fl (document 02, order 8), and those of many records, stored one behind the
 // other.
+#![tactic(auto)]
+
 ghost use Rattle.std.specs.Prelude.{map, ◌≡◌, ◌+◌, ◌*◌, ◌≤◌, ◌<◌, length};
 ghost use Rattle.std.proofs.lemmas.List.Edits.{sets};
 ghost use Rattle.layout.specs.Bytes.{twos_complement};

@@ -1,4 +1,6 @@
 // A field of a record, and a point of three fields, with refusals 19 to 21 (document 01, "Fields and points").
+#![tactic(auto)]
+
 ghost use Rattle.std.specs.Prelude.{◌≡◌, ◌+◌, ◌≤◌, leb, pos, length};
 ghost use Rattle.layout.specs.Bytes.{unsigned_at, signed_at};
 ghost use Rattle.layout.specs.Answer.{need, refusal, is};

@@ -1,4 +1,6 @@
 // The main header: rules 1 to 6 of document 01.
+#![tactic(auto)]
+
 ghost use Rattle.std.specs.Prelude.{◌&&◌, ◌≡◌, ◌+◌, ◌*◌, ◌≤◌, leb, pos};
 ghost use lib.ListN.{length};
 ghost use Rattle.layout.specs.Text.{layout};
@@ -86,7 +88,7 @@ fn dsds_fit(num_dsd: Number, sph_size: Number) -> bool
 }
 
 // What rules 1 to 6 tell, with where the headers end and the number of directory entries; zeros beside a refusal.
-#[derive(Drop)]
+#[derive(Clone, Copy)]
 pub struct HeaderCheck {
     pub verdict: Verdict,
     pub headers_end: usize,

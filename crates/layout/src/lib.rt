@@ -1,11 +1,13 @@
 // The answers of the reader, as document 01 names them. `specs/` beside this file is document 01 as definitions; the promises of the crates above
 // cite both.
+#![tactic(auto)]
+
 ghost use Rattle.std.specs.Prelude.{◌≡◌};
 ghost use Rattle.layout.specs.Answer.{refused, refusal};
 ghost use Rattle.layout.specs.Answers.{verdict_is, place_is, no_directory};
 
 // A refusal carries these three and nothing else. The place is a byte offset; the entry is 0 to 127, or 128 for none.
-#[derive(Drop)]
+#[derive(Clone, Copy)]
 pub struct Refusal {
     pub number: u8,
     pub place: u64,
@@ -13,7 +15,7 @@ pub struct Refusal {
 }
 
 // What a product, or a call that answers an array beside it, is told.
-#[derive(Drop)]
+#[derive(Clone, Copy)]
 pub enum Verdict {
     Accepted,
     Refused(Refusal),
@@ -32,7 +34,7 @@ impl Verdict {
 }
 
 // Where the SPH lines or a record stand in the product.
-#[derive(Drop)]
+#[derive(Clone, Copy)]
 pub enum Place {
     At { place: u64, length: u64 },
     Refused(Refusal),
@@ -51,7 +53,7 @@ impl Place {
 }
 
 // An mjd: days from 1 January 2000, seconds, microseconds.
-#[derive(Drop)]
+#[derive(Clone, Copy)]
 pub struct Time {
     pub days: i32,
     pub seconds: u32,
@@ -59,7 +61,7 @@ pub struct Time {
 }
 
 // A field: a whole number, a single float, a double float or a time. A float's bits stand beside its value, since they are kept for a NaN too.
-#[derive(Drop)]
+#[derive(Clone, Copy)]
 pub enum Field {
     Whole(i64),
     Single { value: f32, bits: u32 },
@@ -67,21 +69,21 @@ pub enum Field {
     Time(Time),
 }
 
-#[derive(Drop)]
+#[derive(Clone, Copy)]
 pub enum FieldAnswer {
     Refused(Refusal),
     Is(Field),
 }
 
 // Latitude and longitude in degrees, altitude in metres.
-#[derive(Drop)]
+#[derive(Clone, Copy)]
 pub struct Point {
     pub latitude: f64,
     pub longitude: f64,
     pub altitude: f64,
 }
 
-#[derive(Drop)]
+#[derive(Clone, Copy)]
 pub enum PointAnswer {
     Refused(Refusal),
     At(Point),
@@ -89,7 +91,7 @@ pub enum PointAnswer {
 
 // Up to 128 entries held together, unused places zero. A name is 28 bytes and a FILENAME 62, entry after entry. The rank of an entry is how many non-empty
 // sets start before its own; an entry without a non-empty set has 128.
-#[derive(Drop)]
+#[derive(Clone, Copy)]
 pub struct Directory {
     pub entries: usize,
     pub types: [u8; 128],
@@ -123,7 +125,7 @@ impl Directory {
     }
 }
 
-#[derive(Drop)]
+#[derive(Clone, Copy)]
 pub struct DirectoryAnswer {
     pub verdict: Verdict,
     pub directory: Directory,

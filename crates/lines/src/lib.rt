@@ -2,6 +2,8 @@
 // A header whose bytes all lie between the two ends of what may stand at their places, none of them barred there, is as laid out. Any other
 // goes row by row through a constant table of line start, kind and width, and span by span: the literal bytes from the last value on, and the value. A
 // spare's value is its blanks.
+#![tactic(auto)]
+
 mod tables;
 
 ghost use Rattle.std.specs.Prelude.{◌≡◌, ◌+◌, ◌*◌, ◌-◌, ◌≤◌, ◌<◌, min, max, true, not, T, eqb, length};
@@ -19,7 +21,7 @@ use layout::Verdict;
 use values::MainHeader;
 
 // One row of a table: its value's first byte, kind and width.
-#[derive(Drop)]
+#[derive(Clone, Copy)]
 struct Row {
     value: usize,
     kind: u8,

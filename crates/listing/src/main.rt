@@ -1,5 +1,7 @@
 // Document 01's program: it reads standard input to 65,536 bytes and writes the listing, or one line of refusal.
 // Where the input cannot be read it lists nothing, and where the output cannot be written it says so too.
+#![tactic(auto)]
+
 use libc::{STDIN_FILENO, STDOUT_FILENO};
 use streams::Arrived;
 

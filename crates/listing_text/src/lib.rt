@@ -1,4 +1,6 @@
 // The listing (document 01, "The listing"): every byte that the listing program writes.
+#![tactic(auto)]
+
 ghost use Rattle.std.specs.Prelude.{◌≡◌, ◌∷◌, ◌++◌, [], ◌+◌, ◌*◌, ◌≤◌, ◌<◌, length};
 ghost use Rattle.layout.specs.Listing.{listing, trimmed, line_of};
 ghost use Rattle.layout.specs.Answers.{verdict_is, name_at};
@@ -10,7 +12,7 @@ use layout::{Directory, Refusal, Verdict};
 use writing::{name_length, put_byte, put_number, put_signed, put_text};
 
 // What a line says of one entry, but for its name.
-#[derive(Drop)]
+#[derive(Clone, Copy)]
 struct Listed {
     number: usize,
     ds_type: u8,

@@ -1,4 +1,6 @@
 // Numbers over several bytes, most significant first, with a sign or without; and the IEEE value of a bit pattern (document 01, "Fields and points").
+#![tactic(auto)]
+
 ghost use Rattle.std.specs.Prelude.{◌≡◌, ◌+◌, ◌*◌, ◌-◌, ◌^◌, ◌≤◌, ◌<◌, length};
 ghost use Rattle.std.specs.Int.Signed.{mag};
 ghost use Rattle.std.specs.Float.{binary32, binary64};

@@ -1,4 +1,6 @@
 // The rules in their order: those of the headers over the bytes at hand and a length, and with those of the states all sixteen.
+#![tactic(auto)]
+
 ghost use Rattle.std.specs.Prelude.{◌≡◌, ◌≤◌, min};
 ghost use lib.ListN.{length};
 ghost use Rattle.layout.specs.Answers.{verdict_is};
@@ -13,7 +15,7 @@ use header::HeaderCheck;
 use layout::{Refusal, Verdict};
 
 // A product of which rules 1 to 14 were asked: the verdict and, where it accepts, where the DSDs begin and the numbers of the directory.
-#[derive(Drop)]
+#[derive(Clone, Copy)]
 pub struct Opening {
     pub verdict: Verdict,
     pub dsds: usize,

@@ -1,5 +1,7 @@
 // Where the sets of a directory lie, by the offsets and sizes of its entries: inside the product, apart from each other, and without a gap (rules 12 to 14
 // of document 01). Two numbers that a product gives are compared by differences, and added only where their sum is known to fit 64 bits.
+#![tactic(auto)]
+
 ghost use Rattle.std.specs.Prelude.{◌+◌, ◌-◌, ◌≤◌, ◌<◌, min, true, not, ◌≡◌};
 ghost use Rattle.layout.specs.Search.{find};
 ghost use Rattle.placement.specs.Sets.{is_inside, overlaps, largest, Clear, Outside, Overlapping};

@@ -1,4 +1,6 @@
 // The public calls. Each judges the product first, has no `requires`, and its promise is layout's definition on every input.
+#![tactic(auto)]
+
 ghost use Rattle.std.specs.Prelude.{◌+◌, ◌≤◌, ◌≡◌, length};
 ghost use Rattle.layout.specs.Bytes.{part};
 ghost use Rattle.layout.specs.Answers.{verdict_is, place_is, field_answer_is, point_answer_is, directory_for};

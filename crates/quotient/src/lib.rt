@@ -1,4 +1,6 @@
 // Whole numbers of a record as degrees and as metres: one division, one rounding (document 01, "Fields and points").
+#![tactic(auto)]
+
 ghost use Rattle.std.specs.Prelude.{◌≡◌};
 ghost use Rattle.layout.specs.Fields.{degrees, metres};
 

@@ -1,4 +1,6 @@
 // Where a record of an accepted product lies (document 01, "State records and unequal lengths"), or refusal 17 or 18.
+#![tactic(auto)]
+
 ghost use Rattle.std.specs.Prelude.{◌≡◌, false, true, ◌+◌, ◌*◌, ◌<◌};
 ghost use Rattle.layout.specs.Answers.{place_is};
 ghost use Rattle.layout.specs.Entries.{directory, at, is_variable, kind_of};

@@ -1,4 +1,6 @@
 // The lines of the SPH before the DSDs (document 01, "Header text", last paragraph, and rule 7).
+#![tactic(auto)]
+
 ghost use Rattle.std.specs.Prelude.{◌≡◌, ◌+◌, ◌-◌, ◌<◌, ◌≤◌, not, ◌&&◌, ltb, length};
 ghost use Rattle.layout.specs.Search.{some, find};
 ghost use Rattle.layout.specs.Sph.{ended, blanks, unquoted, quoted, value, keyword, line};

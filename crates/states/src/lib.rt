@@ -1,4 +1,6 @@
 // State records, their tally, rules 15 and 16 by it, and where a record of a variable set lies (document 01, "State records and unequal lengths").
+#![tactic(auto)]
+
 ghost use Rattle.std.specs.Prelude.{cond, ◌&&◌, ◌≡◌, eqb, ℕ, ◌+◌, ◌*◌, ◌-◌, ◌≤◌, ◌<◌, length};
 ghost use Rattle.layout.specs.Answers.{verdict_is};
 ghost use Rattle.layout.specs.Bytes.{part};
@@ -14,7 +16,7 @@ use directory::Sets;
 use layout::Verdict;
 
 // Source 003, table 15.4.1.7.20-1.
-#[derive(Drop)]
+#[derive(Clone, Copy)]
 pub struct State {
     pub flag: u8,
     pub kind: u8,
@@ -76,7 +78,7 @@ impl State {
 
 // The states of a product together. The number of the first state that does not fit, or how many there are; the records of kinds 1 to 4, and their
 // bytes.
-#[derive(Drop)]
+#[derive(Clone, Copy)]
 pub struct Tally {
     pub bad: usize,
     pub counts: [u64; 4],
@@ -187,7 +189,7 @@ pub fn tally_states(p: &[u8], start: usize, count: usize) -> Tally
 }
 
 // A record of a variable set: the bytes of the records before it, and its length.
-#[derive(Drop)]
+#[derive(Clone, Copy)]
 pub enum Found {
     At { before: u64, length: u64 },
     Nothing,
@@ -263,7 +265,7 @@ fn only_states(roles: &[u8; 128], entries: usize) -> usize
 }
 
 // Where the states begin that rules 15 and 16 look at, and how many there are: 0 and 0 where these look at none.
-#[derive(Drop)]
+#[derive(Clone, Copy)]
 pub struct StatesSpan {
     pub place: u64,
     pub count: u64,

@@ -1,10 +1,12 @@
 // An input that arrived whole, or the word that it did not (`io::read_full` stops at a read that fails as at the input's end); and the end of an output.
+#![tactic(auto)]
+
 ghost use Rattle.streams.specs.Arrivals.{Fills};
 
 use libc::STDOUT_FILENO;
 
 // What came of an input.
-#[derive(Drop)]
+#[derive(Clone, Copy)]
 pub enum Arrived {
     // So many bytes at the start of the room: all of the input, or as many as the room holds.
     Whole(usize),

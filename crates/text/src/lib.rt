@@ -1,4 +1,6 @@
 // Header text (document 01, "Header text"): runs of blanks, plain bytes and digits, names, and decimal numbers, read at a place of the lent bytes.
+#![tactic(auto)]
+
 ghost use Rattle.std.specs.Prelude.{◌≡◌, ◌+◌, ◌*◌, ◌-◌, ◌^◌, ◌<◌, ◌≤◌, not, T, length};
 ghost use Rattle.layout.specs.Bytes.{part};
 ghost use Rattle.layout.specs.Search.{some, find};
@@ -187,7 +189,7 @@ pub fn first_not_digit(p: &[u8], from: usize, to: usize) -> usize
 }
 
 // A sign and a magnitude as they stand. The magnitude 2^63 stands for everything above 2^63 - 1.
-#[derive(Drop)]
+#[derive(Clone, Copy)]
 pub struct Number {
     pub minus: bool,
     pub magnitude: u64,

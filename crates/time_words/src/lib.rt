@@ -1,4 +1,6 @@
 // Times and their texts as a host gets them: words of 64 bits and bytes, put into lent rooms.
+#![tactic(auto)]
+
 ghost use Rattle.std.specs.Prelude.{◌≤◌, length};
 ghost use Rattle.layout.specs.Answers.{verdict_is};
 ghost use Rattle.writing.specs.Put.{Put};

@@ -1,5 +1,7 @@
 // Times people can read (document 02, order 7): `01-JAN-2000 00:00:00.000000` beside an mjd, and the other way. They stand beside the reader: no call of
 // the reader asks them, and a field of kind 9 is answered as it stands, in the range or not.
+#![tactic(auto)]
+
 mod texts;
 
 ghost use Rattle.std.specs.Prelude.{◌≡◌, T};
@@ -10,7 +12,7 @@ use calendar::Date;
 use layout::{Refusal, Time, Verdict};
 
 // A moment as its text has it.
-#[derive(Drop)]
+#[derive(Clone, Copy)]
 pub struct Moment {
     pub date: Date,
     pub hour: u32,
@@ -20,7 +22,7 @@ pub struct Moment {
 }
 
 // What a text says: a time, or with 27 blanks that none is given.
-#[derive(Drop)]
+#[derive(Clone, Copy)]
 pub enum TimeAnswer {
     Refused(Refusal),
     NotGiven,
@@ -40,7 +42,7 @@ impl TimeAnswer {
 }
 
 // The text of a time; zeros beside a refusal.
-#[derive(Drop)]
+#[derive(Clone, Copy)]
 pub struct TimeText {
     pub verdict: Verdict,
     pub text: [u8; 27],

@@ -1,4 +1,6 @@
 // The 34 values of the main header (document 01, "Fixed layouts").
+#![tactic(auto)]
+
 ghost use Rattle.std.specs.Prelude.{◌≡◌, ◌+◌, ◌≤◌, ◌<◌, length};
 ghost use Rattle.layout.specs.Bytes.{part};
 ghost use Rattle.layout.specs.Text.{number_of, whole};
@@ -10,7 +12,7 @@ use layout::Verdict;
 use writing::put_text;
 
 // The values of the main header, in the order of its lines.
-#[derive(Drop)]
+#[derive(Clone, Copy)]
 pub struct Identity {
     pub product: [u8; 62],
     pub proc_stage: u8,
@@ -21,7 +23,7 @@ pub struct Identity {
     pub software_ver: [u8; 14],
 }
 
-#[derive(Drop)]
+#[derive(Clone, Copy)]
 pub struct Sensing {
     pub sensing_start: [u8; 27],
     pub sensing_stop: [u8; 27],
@@ -31,7 +33,7 @@ pub struct Sensing {
     pub abs_orbit: i64,
 }
 
-#[derive(Drop)]
+#[derive(Clone, Copy)]
 pub struct Orbit {
     pub state_vector_time: [u8; 27],
     pub delta_ut1: i64,
@@ -44,7 +46,7 @@ pub struct Orbit {
     pub vector_source: [u8; 2],
 }
 
-#[derive(Drop)]
+#[derive(Clone, Copy)]
 pub struct Clock {
     pub utc_sbt_time: [u8; 27],
     pub sat_binary_time: i64,
@@ -54,7 +56,7 @@ pub struct Clock {
     pub leap_err: u8,
 }
 
-#[derive(Drop)]
+#[derive(Clone, Copy)]
 pub struct Sizes {
     pub product_err: u8,
     pub tot_size: i64,
@@ -64,7 +66,7 @@ pub struct Sizes {
     pub num_data_sets: i64,
 }
 
-#[derive(Drop)]
+#[derive(Clone, Copy)]
 pub struct MainHeader {
     pub identity: Identity,
     pub sensing: Sensing,
@@ -152,7 +154,7 @@ impl Sizes {
     }
 }
 
-#[derive(Drop)]
+#[derive(Clone, Copy)]
 pub struct HeaderAnswer {
     pub verdict: Verdict,
     pub header: MainHeader,

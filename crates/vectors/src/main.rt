@@ -2,6 +2,8 @@
 // call. For the stored products the twin has printed what must come out.
 // A file that cannot be read is named on standard error and has no line, and the others go on. Where a line cannot be written, that is said once and ends
 // all: each function that prints answers whether it was written.
+#![tactic(auto)]
+
 ghost use Rattle.std.specs.Prelude.{◌≤◌, length};
 
 mod calls;

@@ -1,5 +1,7 @@
 // The answers of the reader as a host gets them: words of 64 bits, doubles and texts, put into lent rooms. Here the words and doubles of all answers
 // but two; `headers` has the main header and the directory, `rooms` what is put whole into two rooms.
+#![tactic(auto)]
+
 mod headers;
 mod rooms;
 

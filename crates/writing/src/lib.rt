@@ -1,4 +1,6 @@
 // Names, texts and numbers put into a lent buffer. A writer puts its text into `out` from the place `at` on, and answers the place behind it.
+#![tactic(auto)]
+
 ghost use Rattle.std.specs.Prelude.{◌≡◌, ◌∷◌, ◌++◌, [], ◌+◌, ◌≤◌, nat_abs, length, replicate};
 ghost use Rattle.layout.specs.Bytes.{part};
 ghost use Rattle.layout.specs.Listing.{decimal, signed_decimal, trimmed};
