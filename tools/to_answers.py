@@ -59,20 +59,20 @@ class Turn:
     # ---- paths
 
     def resolve(self, place, fields):
-        """The new path of `c` at a place, and then these fields; or a place alone."""
-        at = self.places.get(place)
+        """The new path of these fields behind a place; or a place alone. A step is found by its name, which no other has: how many steps there are
+        between two differs between the kits."""
         while fields and fields[0] == "before":
-            at = self.places.get(at[1]) if at else None
             fields = fields[1:]
-        if at is None:
-            return None
         if not fields:
-            return ("place", at[0])
+            return ("place", place)
         first, rest = norm(fields[0]), fields[1:]
         if first in ("args", "requires", "ranges"):
             return ("path", ".".join(["c", first] + rest))
-        if norm(at[2][0]) == first:
-            return ("path", ".".join(["c", at[2][1]] + self.fields(at, rest)))
+        at = self.places.get(place)
+        while at is not None:
+            if norm(at[2][0]).lower() in (first.lower(), re.sub("_lem$", "", first)):
+                return ("path", ".".join(["c", at[2][1]] + self.fields(at, rest)))
+            at = self.places.get(at[1])
         return None
 
     def fields(self, at, rest):

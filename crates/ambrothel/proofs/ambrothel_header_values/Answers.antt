@@ -1,0 +1,9 @@
+-- `ambrothel::ambrothel_header_values` meets its contract.
+-- Assumes nothing.
+use borrow.Author.Rules.{rules}
+use Rattle.ambrothel.proofs.ambrothel_header_values.Goals as goal
+
+pub returns : goal.returns
+returns c =
+    let answered = c.header_values-answer in
+    rw (← answered.ensures.1, ← answered.ensures.0) c.put_whole_header.ensures

@@ -1,0 +1,51 @@
+-- `ambrothel::ambrothel_open_directory` meets its contract.
+-- Assumes nothing.
+use mathlib.Core.Path.{refl}
+use native.Mathlib.Omega.{arith}
+use Rattle.layout.specs.Answers.{verdict_is}
+use Rattle.layout.proofs.Replies.{told-refused}
+use Rattle.writing.proofs.Puts.{same_room}
+use Rattle.words.proofs.Lent.{first_short, second_short}
+use Rattle.ambrothel.proofs.Rooms.{words_long, texts_long, Held, opened_held, all_put}
+use borrow.Author.Rules.{rules}
+use Rattle.ambrothel.proofs.ambrothel_open_directory.Goals as goal
+
+-- what the opening holds where it is accepted
+held : (s : tie.After-enum-told) → Held s.before.before.before.before.before.before.before.before.before.args.p.now s.before.before.before.open-headers.result.dsds s.before.before.before.open-headers.result.sets
+held s =
+    let judged = s.before.before.judge-opened in
+    let opened = s.before.before.before.open-headers in
+    opened_held _ opened.result opened.ensures judged.result s.enum_told.given.1 judged.ensures
+
+pub returns-then-words-lt772 : goal.returns-then-words-lt772
+returns-then-words-lt772 c = first_short (rw (words_long c.args.p.now) c.if-words-lt772.true)
+
+pub returns-then-texts-lt11520 : goal.returns-then-texts-lt11520
+returns-then-texts-lt11520 c =
+    let b = c.args.p.now in
+    second_short (rw (words_long b) c.if-words-lt772.false) (rw (texts_long b) c.if-texts-lt11520.true)
+
+pub returns-in-Refused : goal.returns-in-Refused
+unfolding verdict_is
+returns-in-Refused c =
+    let judged = c.judge_opened-verdict in
+    rw (told-refused judged.result _ _ c.verdict-1.given.1 judged.ensures, ← c.none.ensures) c.put_whole_directory.ensures
+
+pub rank_sets-requires : goal.rank_sets-requires
+rank_sets-requires c = ((held c{-TODO place After-ranks-}).few, refl)
+
+pub put_names-named-requires : goal.put_names-named-requires
+put_names-named-requires c =
+    let h = held accepted in
+    (h.inside, h.few, omega (arith, c.if-texts-lt11520.false))
+
+pub put_filenames-requires : goal.put_filenames-requires
+put_filenames-requires c =
+    let h = held accepted in
+    let named = c.put_names-named.ensures in
+    (h.inside, h.few, omega (arith, named.next, named.narrow, same_room named, c.if-texts-lt11520.false))
+
+pub returns : goal.returns
+unfolding verdict_is
+returns c =
+    all_put _ _ _ (held accepted) c.rank_sets.ensures c.if-words-lt772.false c.if-texts-lt11520.false c.put_directory_numbers.ensures c.put_names-named.ensures c.put_filenames.ensures

@@ -1,0 +1,31 @@
+-- `directory::directory_from` meets its contract.
+-- Assumes nothing.
+use Prim.Native.Nat.{ℕ}
+use mathlib.Core.Path.{sym, ◌∙◌}
+use lib.ListN.{length-replicate}
+use Rattle.layout.specs.Answers.{directory_of}
+use Rattle.writing.proofs.Puts.{fills}
+use Rattle.directory.specs.Numbers.{directory_with}
+use Rattle.directory.proofs.Texts.{names-long, filenames-long}
+use borrow.Author.Rules.{rules}
+use Rattle.directory.proofs.directory_from.Goals as goal
+
+pub returns : goal.returns
+unfolding directory_with directory_of
+returns c =
+    let args = c.args in
+    let few = c.requires.1 in
+    let names = fills c.put_names.ensures (names-long args.p.now args.from args.sets.entries few ∙ sym (length-replicate {A = ℕ} 3584 0)) in
+    let filenames = fills c.put_filenames.ensures (filenames-long args.p.now args.from args.sets.entries few ∙ sym (length-replicate {A = ℕ} 7936 0)) in
+    let ranks = c.rank_sets.ensures in
+    λ j. record {
+      entries = args.sets.entries;
+      types = args.sets.types;
+      names = names j;
+      filenames = filenames j;
+      offsets = args.sets.offsets;
+      sizes = args.sets.sizes;
+      counts = args.sets.counts;
+      record_sizes = args.sets.record_sizes;
+      ranks = ranks j;
+    }

@@ -1,0 +1,17 @@
+use Prim.Native.Nat.{◌+◌, ◌*◌, ◌-◌, ◌≤◌}
+use mathlib.Core.Path.{◌≡◌, ◌∙◌}
+use mathlib.Core.List.{map}
+use native.Mathlib.Omega.{arith}
+use lib.ListN.{length}
+use Rattle.layout.specs.Search.{join, upto}
+use Rattle.writing.specs.Put.{Put}
+use Rattle.writing.proofs.Puts.{same_room}
+use Rattle.directory.specs.Texts.{text_at, texts_from}
+use Rattle.directory.proofs.Texts.{none_put, one_put, next-within, next_fits, all_put}
+use Rattle.directory.proofs.put_texts.Given as goal
+
+abbrev pub invariant-loop-i : goal.invariant-loop-i
+invariant-loop-i l = (l.i ≤ l.n) × Put (l.width * l.i) (join (map (text_at l.p l.from l.place l.width) (upto 0 l.i))) l.initial.room l.room l.at l.next
+
+abbrev pub decreases-loop-i : goal.decreases-loop-i
+decreases-loop-i l = l.n - l.i

@@ -1,0 +1,14 @@
+use Prim.Native.Nat.{◌≤◌, ◌-◌}
+use mathlib.Core.Path.{◌≡◌, sym, ◌∙◌}
+use native.Mathlib.Omega.{arith}
+use borrow.Author.Rules.{rules}
+use Rattle.layout.specs.Search.{find}
+use Rattle.layout.proofs.Laws.{find_hit, find-next, find_none}
+use Rattle.extinction.specs.Found.{is_extinction_in}
+use Rattle.extinction.proofs.first_extinction.Given as goal
+
+abbrev pub invariant-loop-i : goal.invariant-loop-i
+invariant-loop-i l = (l.i ≤ l.entries) × (find (is_extinction_in l.types l.names) l.from (l.entries - l.from) ≡ find (is_extinction_in l.types l.names) l.i (l.entries - l.i))
+
+abbrev pub decreases-loop-i : goal.decreases-loop-i
+decreases-loop-i l = l.entries - l.i

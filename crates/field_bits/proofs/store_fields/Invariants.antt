@@ -1,0 +1,16 @@
+use Prim.Native.Nat.{◌+◌, ◌*◌, ◌-◌, ◌≤◌}
+use mathlib.Core.List.{map}
+use mathlib.Core.Path.{◌≡◌, refl, ◌∙◌}
+use native.Mathlib.Omega.{arith}
+use lib.Seq.{sets, length_sets}
+use Rattle.layout.specs.Search.{upto}
+use Rattle.writing.proofs.Puts.{lent_part, lent_length}
+use Rattle.field_bits.specs.Bits.{field_bits}
+use Rattle.field_bits.proofs.Stored.{turn_inside, next-stored}
+use Rattle.field_bits.proofs.store_fields.Given as goal
+
+abbrev pub invariant-loop-k : goal.invariant-loop-k
+invariant-loop-k l = (l.k ≤ l.count) × (l.column ≡ sets l.initial.column l.at (map (field_bits l.p l.place l.size l.offset l.kind) (upto 0 l.k)))
+
+abbrev pub decreases-loop-k : goal.decreases-loop-k
+decreases-loop-k l = l.count - l.k

@@ -1,0 +1,15 @@
+-- `lines::whole_check` meets its contract: the sign, then the span of digits.
+-- Assumes nothing.
+use mathlib.Core.Path.{sym, ◌∙◌}
+use borrow.Author.Rules.{rules}
+use borrow.Author.Tests.{not-true, not-false}
+use Rattle.layout.specs.Text.{digit}
+use Rattle.lines.proofs.Spans.{run_bad}
+use Rattle.lines.proofs.Values.{whole-bad, whole-good}
+use Rattle.lines.proofs.whole_check.Goals as goal
+
+pub returns-then-not-is_sign : goal.returns-then-not-is_sign
+returns-then-not-is_sign c = whole-bad _ _ _ (sym c.is_sign.ensures ∙ not-true _ c.if-not-is_sign.true)
+
+pub returns : goal.returns
+returns c = whole-good _ _ _ _ (sym c.is_sign.ensures ∙ not-false _ c.if-not-is_sign.false) (c.first_not_digit.ensures ∙ run_bad digit _ _ _)

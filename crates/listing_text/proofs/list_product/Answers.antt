@@ -1,0 +1,17 @@
+-- `listing_text::list_product` meets its contract.
+-- Assumes nothing.
+use native.Mathlib.Omega.{arith}
+use Rattle.listing_text.proofs.Whole.{longer, listed, few-entries}
+use borrow.Author.Rules.{rules}
+use Rattle.listing_text.proofs.list_product.Goals as goal
+
+pub returns-then-p-gt65536 : goal.returns-then-p-gt65536
+returns-then-p-gt65536 c = rw (longer c.args.p.now c.if-p-gt65536.true) c.write_longer.ensures
+
+pub write_listing-requires : goal.write_listing-requires
+write_listing-requires c = (omega arith, few-entries c.args.p.now _ c.open_directory-answer.ensures.1)
+
+pub returns : goal.returns
+returns c =
+    let opened = c.open_directory-answer in
+    rw (listed c.args.p.now c.if-p-gt65536.false _ _ opened.ensures.0 opened.ensures.1) c.write_listing.ensures

@@ -1,0 +1,18 @@
+-- `listing_text::write_listing` meets its contract, by the cases of the verdict.
+-- Assumes nothing.
+use native.Mathlib.Omega.{arith}
+use borrow.Author.Rules.{rules}
+use Rattle.writing.proofs.Puts.{from_start, spelled}
+use Rattle.listing_text.proofs.Lines.{listing-accepted, listing-refused}
+use Rattle.listing_text.proofs.write_listing.Goals as goal
+
+pub returns-in-Accepted : goal.returns-in-Accepted
+returns-in-Accepted c =
+    let a = c.args in
+    from_start 32768 (spelled (listing-accepted a.verdict a.size a.directory c.enum_told-1.given.1) c.put_accepted.ensures) (omega arith) c.requires.0
+
+pub returns-in-Refused : goal.returns-in-Refused
+returns-in-Refused c =
+    let a = c.args in
+    let v = c.verdict-1.given in
+    from_start 32768 (spelled (listing-refused a.verdict a.size a.directory v.0.0 v.1) c.put_refusal.ensures) (omega arith) c.requires.0

@@ -1,0 +1,15 @@
+-- `product::part_at` meets its contract.
+-- Assumes nothing.
+use Prim.Native.Nat.{◌+◌, ◌-◌}
+use mathlib.Core.Path.{◌≡◌}
+use native.Mathlib.Omega.{arith}
+use borrow.Author.Rules.{rules}
+use Rattle.layout.specs.Bytes.{part}
+use Rattle.product.proofs.part_at.Goals as goal
+
+pub returns : goal.returns
+unfolding part
+returns c =
+    let a = c.args in
+    let q : a.place + a.size - a.place ≡ a.size = omega arith in
+    rw q

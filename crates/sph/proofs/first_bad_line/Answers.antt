@@ -1,0 +1,24 @@
+-- `sph::first_bad_line` meets its contract: what is left of the search from the line at `start` on is the whole search.
+-- Assumes nothing.
+use Prim.Native.Nat.{◌-◌}
+use native.Mathlib.Omega.{arith}
+use Rattle.sph.proofs.BadLines.{line-bad, line-good, Reached, reached-first, reached-bad, reached_end, reached-next}
+use Rattle.sph.proofs.first_bad_line.Goals as goal
+
+pub loop-start-init : goal.loop-start-init
+loop-start-init c = reached-first _ _ _ (omega arith)
+
+pub line_end-end-requires : goal.line_end-end-requires
+line_end-end-requires c = (omega arith, omega arith)
+
+pub returns-then-end-start : goal.returns-then-end-start
+returns-then-end-start c = reached-bad _ _ _ _ c.loop-start.invariant (omega arith) (line-bad _ _ _ _ (omega arith) c.line_end-end.ensures c.if-end-start.true)
+
+pub loop-start-smaller : goal.loop-start-smaller
+loop-start-smaller c = omega (arith, (line-good _ _ _ _ (omega arith) c.line_end-end.ensures c.if-end-start.false).on)
+
+pub loop-start-preserved : goal.loop-start-preserved
+loop-start-preserved c = reached-next _ _ _ _ c.loop-start.invariant _ (line-good _ _ _ _ (omega arith) c.line_end-end.ensures c.if-end-start.false)
+
+pub returns : goal.returns
+returns c = reached_end _ _ _ _ c.loop-start.invariant (omega arith)

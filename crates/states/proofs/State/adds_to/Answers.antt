@@ -1,0 +1,19 @@
+-- `states::State::adds_to` meets its contract.
+-- Assumes nothing.
+use native.Mathlib.Omega.{arith}
+use Rattle.states.specs.States.{state_is}
+use Rattle.states.proofs.Laws.{count_detached, count-other, count-attached}
+use borrow.Author.Rules.{rules}
+use Rattle.states.proofs.State.adds_to.Goals as goal
+
+pub returns-then-self-ne0 : goal.returns-then-self-ne0
+unfolding state_is
+returns-then-self-ne0 c = (count_detached (state_is c.args.self) _ c.if-self-ne0.true, omega arith)
+
+pub returns-then-self-kind : goal.returns-then-self-kind
+unfolding state_is
+returns-then-self-kind c = (count-other (state_is c.args.self) _ c.if-self-kind.true, omega arith)
+
+pub returns : goal.returns
+unfolding state_is
+returns c = (count-attached (state_is c.args.self) _ c.if-self-ne0.false c.if-self-kind.false, omega arith)

@@ -1,0 +1,18 @@
+use Prim.Native.Nat.{◌≤◌, ◌-◌}
+use mathlib.Core.Path.{◌≡◌}
+use native.Mathlib.Omega.{arith}
+use borrow.Author.Rules.{rules}
+use Rattle.layout.specs.Records.{variable_lengths}
+use Rattle.states.specs.States.{state_is, state_from, states_from, cap, found_behind, found}
+use Rattle.states.proofs.Sums.{bytes_small, capped_le}
+use Rattle.states.proofs.Laws.{rest_from, rest_whole, record_here, record_later, record_nowhere}
+use Rattle.states.proofs.find_record.Given as goal
+
+abbrev pub invariant-loop-i : goal.invariant-loop-i
+invariant-loop-i l =
+    (l.i ≤ l.count)
+    × (l.before ≤ cap)
+    × (found (variable_lengths (states_from l.p l.start l.count) l.kind) l.asked ≡ found_behind l.before (variable_lengths (rest_from l.p l.start l.count l.i) l.kind) l.left)
+
+abbrev pub decreases-loop-i : goal.decreases-loop-i
+decreases-loop-i l = l.count - l.i

@@ -1,0 +1,23 @@
+-- `states::first_role` meets its contract: what is left of the search from `i` on is the whole search.
+-- Assumes nothing.
+use Prim.Native.Nat.{◌≤◌, ◌-◌}
+use mathlib.Core.Path.{◌≡◌}
+use mathlib.Core.Logic.{⊎_elim}
+use native.Mathlib.Omega.{arith}
+use borrow.Author.Rules.{rules}
+use Rattle.layout.specs.Search.{find}
+use Rattle.layout.proofs.Laws.{find_hit, find-next, find_none}
+use Rattle.states.specs.Roles.{role_within}
+use Rattle.states.proofs.Sums.{within_in, within_below, within_above}
+use Rattle.states.proofs.first_role.Goals as goal
+
+pub returns-then-role-high : goal.returns-then-role-high
+unfolding role_within
+returns-then-role-high c = find_hit _ _ _ _ c.loop-i.invariant.1 (omega arith) (within_in _ _ _ c.if-low-role.true c.if-role-high.true)
+
+pub loop-i-preserved : goal.loop-i-preserved
+unfolding role_within
+loop-i-preserved c = (omega arith, find-next _ _ _ _ c.loop-i.invariant.1 (omega arith) (⊎_elim (λ w. within_above _ _ _ w.1.left) (λ w. within_below _ _ _ w.left) c.if-low-role.branch))
+
+pub returns : goal.returns
+returns c = find_none _ _ _ _ c.loop-i.invariant.1 (omega arith) (omega arith)

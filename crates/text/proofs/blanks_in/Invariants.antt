@@ -1,0 +1,15 @@
+use Prim.Native.Nat.{◌≤◌, ◌-◌}
+use mathlib.Core.Bool.{not}
+use mathlib.Core.Path.{◌≡◌}
+use native.Mathlib.Omega.{arith}
+use Rattle.layout.specs.Search.{some}
+use Rattle.text.specs.Blanks.{not_blank}
+use Rattle.text.proofs.Runs.{all_none, all_more, all_end}
+use Rattle.text.proofs.Tests.{blank_test}
+use Rattle.text.proofs.blanks_in.Given as goal
+
+abbrev pub invariant-loop-i : goal.invariant-loop-i
+invariant-loop-i l = (l.i ≤ l.n) × (l.all ≡ not (some (not_blank l.p) l.at l.i))
+
+abbrev pub decreases-loop-i : goal.decreases-loop-i
+decreases-loop-i l = l.n - l.i

@@ -1,0 +1,17 @@
+use Prim.Native.Nat.{◌≤◌, ◌-◌}
+use mathlib.Core.Path.{◌≡◌, refl}
+use native.Mathlib.Omega.{arith}
+use borrow.Author.Rules.{rules}
+use borrow.Author.Tests.{not-true, not-false}
+use Rattle.layout.specs.Search.{find}
+use Rattle.layout.specs.Text.{digit, fits}
+use Rattle.text.specs.Runs.{fails}
+use Rattle.layout.proofs.Laws.{find_hit, find-next, find_none}
+use Rattle.text.proofs.Tests.{passing, failing}
+use Rattle.text.proofs.first_not_digit.Given as goal
+
+abbrev pub invariant-loop-i : goal.invariant-loop-i
+invariant-loop-i l = (l.i ≤ l.to) × (find (fails (fits digit) l.p) l.from (l.to - l.from) ≡ find (fails (fits digit) l.p) l.i (l.to - l.i))
+
+abbrev pub decreases-loop-i : goal.decreases-loop-i
+decreases-loop-i l = l.to - l.i

@@ -1,0 +1,16 @@
+use Prim.Native.Nat.{◌≤◌, ◌-◌}
+use mathlib.Core.Bool.{not}
+use mathlib.Core.Path.{◌≡◌, refl}
+use native.Mathlib.Omega.{arith}
+use Rattle.layout.specs.Search.{some}
+use Rattle.layout.specs.Text.{exactly, fits}
+use Rattle.text.specs.Runs.{fails}
+use Rattle.text.proofs.Runs.{all_none, all_more, all_end}
+use Rattle.text.proofs.Tests.{class_test}
+use Rattle.text.proofs.zeros_in.Given as goal
+
+abbrev pub invariant-loop-i : goal.invariant-loop-i
+invariant-loop-i l = (l.i ≤ l.n) × (l.all ≡ not (some (fails (fits (exactly 48)) l.p) l.at l.i))
+
+abbrev pub decreases-loop-i : goal.decreases-loop-i
+decreases-loop-i l = l.n - l.i

@@ -1,0 +1,27 @@
+-- `times::text_of_time` meets its contract.
+-- Assumes nothing.
+use mathlib.Core.Path.{sym, ap, ◌∙◌}
+use borrow.Author.Tests.{not-true, not-false}
+use borrow.Author.Rules.{rules}
+use Rattle.times.specs.Times.{valid_time}
+use Rattle.times.proofs.Said.{told}
+use Rattle.times.proofs.Answers.{time-kept, refused-text, given-text}
+use Rattle.times.proofs.text_of_time.Goals as goal
+
+pub returns-then-not-is_time : goal.returns-then-not-is_time
+returns-then-not-is_time c =
+    let kept = time-kept c.args.days c.args.seconds c.args.microseconds c.ranges.days in
+    refused-text _ c.refuse.result c.refuse.ensures (sym (ap valid_time kept) ∙ sym c.is_time.ensures ∙ not-true _ c.if-not-is_time.true)
+
+pub moment_of-moment-requires : goal.moment_of-moment-requires
+moment_of-moment-requires c = told _ (sym c.is_time.ensures ∙ not-false _ c.if-not-is_time.false)
+
+pub text_of-requires : goal.text_of-requires
+text_of-requires c = c.moment_of-moment.ensures.0
+
+pub returns : goal.returns
+returns c =
+    let kept = time-kept c.args.days c.args.seconds c.args.microseconds c.ranges.days in
+    let moment = c.moment_of-moment in
+    let good = told _ (sym (ap valid_time kept) ∙ sym c.is_time.ensures ∙ not-false _ c.if-not-is_time.false) in
+    given-text _ moment.result _ good moment.ensures.0 (moment.ensures.1 ∙ kept) c.text_of.ensures
