@@ -21,6 +21,7 @@ FIXED = {"getD-map-upto": "get_or-map-upto"}
 NAME = r"[^\W\d◌][\w'◌⇒-]*"
 DECLARED = re.compile(r"^\s*(?:(?:abbrev|unfoldable|pub|data|record|axiom|ruleset|pattern)\s+)*(◌?" + NAME + r"◌?)(?=\s*(?::|=|\(|\{))", re.M)
 IMPORTED = re.compile(r"^(?:ghost )?use [^;{]*\{([^}]*)\}", re.M)
+USE = re.compile(r"^(?:ghost )?use ([^;{]*)\.\{([^}]*)\}", re.M)
 FIELD = re.compile(r"^ +(?:pub )?([a-z]\w*): ", re.M)
 TOKEN = re.compile(r'"(?:\\.|[^"\\])*"|◌?' + NAME + r"◌?")
 
@@ -52,6 +53,13 @@ def parts(word, names):
     return text
 
 
+def library(paths):
+    """The names that are imported from other modules than this repository's."""
+    own = {os.path.basename(p) for p in glob.glob("crates/*")}
+    uses = [m for p in paths for m in USE.findall(read(p))]
+    return {n for module, names in uses if module.split(".")[:1] != ["Rattle"] or module.split(".")[1] not in own for n in re.split(r"[,\s]+", names)}
+
+
 def renamed():
     own = files("crates/*/specs/**/*.antt", "crates/*/proofs/*.antt")
     declared = {n for p in own for n in DECLARED.findall(read(p))}
@@ -63,7 +71,7 @@ def renamed():
     theirs |= {n for p in everywhere for names_used in IMPORTED.findall(read(p)) for n in re.split(r"[,\s]+", names_used)}
     theirs -= {n for p in everywhere if p.endswith(".rt") for n in FIELD.findall(read(p))}
     table = {}
-    for word in sorted(used):
+    for word in sorted(used - library(everywhere)):
         new = FIXED.get(word) or (parts(word, names) if word in declared and "-" in word and not word.startswith("◌") else snake(word) if is_camel(word) else word)
         if new != word:
             table[word] = new
@@ -112,9 +120,11 @@ def names():
 def main():
     table, changed = names(), 0
     pages = sys.argv[1:] == ["--pages"]
+    # A function of src/ keeps its name, also where a lemma elsewhere loses it.
+    source = {a: b for a, b in table.items() if is_camel(a) or "-" in a or "◌" in a}
     for path in files("README.md", "docs/*.md", "docs/orders/*.md") if pages else files("crates/**/*.antt", "crates/*/src/**/*.rt", "crates/*/must-fail/*.edit"):
         text = read(path)
-        new = re.sub(r"`[^`\n]*`", lambda m: turn(m[0], table), text) if pages else turn(text, table)
+        new = re.sub(r"`[^`\n]*`", lambda m: turn(m[0], table), text) if pages else turn(text, source if path.endswith(".rt") else table)
         if new != text:
             with open(path, "w", encoding="utf-8") as f:
                 f.write(new)

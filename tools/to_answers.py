@@ -77,7 +77,9 @@ class Turn:
 
     def fields(self, at, rest):
         """`.new.1.0` of a call goes by the parameter's name now."""
-        rest = ["type_inv" if r == "type-inv" else {"taken": "true", "left": "false"}.get(r, r) for r in rest]
+        rest = ["type_inv" if r == "type-inv" else r for r in rest]
+        if rest and at[2][0].startswith(("if", "loop")):
+            rest[0] = {"taken": "true", "left": "false"}.get(rest[0], rest[0])
         if rest[:1] == ["new"] and at[3]:
             params = self.names["params"].get(at[3], [])
             i, k = 1, 0
@@ -182,6 +184,8 @@ class Turn:
                 turned.append((name, lines, found))
                 if found:
                     renamed[name] = found[0]
+                elif "slice_aggregate" in need:
+                    turned.pop()  # the check settles it now
                 else:
                     self.say(f"no goal for {name}")
                 continue
@@ -205,11 +209,14 @@ class Turn:
                 answers.append("-- TODO\n" + body)
                 continue
             before, after = rest[: m.start()], rest[m.end() :]
-            if after.strip() == "search rules":
+            if after.strip() == "search rules" and not before.strip():
                 continue
             if m[1] != "c" and m[1] != "_":
                 self.say(f"{name} binds {m[1]}")
             after = self.turn_paths(after, place)
+            # `if !x` says of x what holds, and no longer of `not x`.
+            after = re.sub(r"not-(?:false|true) (?:_|[A-Za-z][\w'.-]*) (c\.if-not-[\w-]+\.(?:true|false))", r"\1", after)
+            after = re.sub(r"\((c\.if-not-[\w-]+\.(?:true|false))\)", r"\1", after)
             after = re.sub(r"(?<![\w'.-])" + ID, lambda t: renamed.get(t[0], t[0]), after)
             if re.search(r"\bκs\b", after):
                 self.say(f"{name}: κs")

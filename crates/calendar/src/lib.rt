@@ -33,7 +33,7 @@ fn missing_days(long: bool) -> u32
 }
 
 // So many from a number on, and none below it. Asked for in this form, both ways cost the same, whichever year or month it is.
-fn from_on_lem(number: u32, least: u32, many: u32) -> u32
+fn from_on(number: u32, least: u32, many: u32) -> u32
     ensures { result ≡ from_on number least many }
 {
     if number < least {
@@ -48,7 +48,7 @@ fn days_of_months(long: bool, count: u32) -> u32
     ensures { (result ≡ sum (take count (months long))) × (result ≤ 366) }
 {
     let missing = missing_days(long);
-    (489 * count + 8) / 16 - from_on_lem(count, 2, missing)
+    (489 * count + 8) / 16 - from_on(count, 2, missing)
 }
 
 // A date of the range.
@@ -89,7 +89,7 @@ fn days_of_even_months(long: bool, days: u32) -> u32
     ensures { (result ≡ even_days long days) × (result ≤ 368) }
 {
     let missing = missing_days(long);
-    days + from_on_lem(days, 61 - missing, missing)
+    days + from_on(days, 61 - missing, missing)
 }
 
 // The date that has so many days before it. 67/2048 of the days are months.

@@ -6,7 +6,7 @@ use mathlib.Core.Path.{◌≡◌, refl, sym, ap, ◌∙◌}
 use native.Mathlib.Omega.{arith}
 use native.Mathlib.Nat.{zero-add}
 use lib.ListN.{length, take, drop}
-use lib.Seq.{sets, sets-eq, length_sets, take_at, length-take-le}
+use lib.Seq.{sets, sets-eq, length-sets, take_at, length-take-le}
 use Rattle.layout.specs.Answer.{accepted, refused, Reply, refusal, is}
 use Rattle.layout.specs.Search.{upto}
 use Rattle.layout.specs.Entries.{directory, at, start}
@@ -71,7 +71,7 @@ module _ (b : List ℕ) (i : ℕ) (q : Request) (begin : ℕ) (ns old column : L
     long = (each_value (in_set b i q begin ns) q.from (q.to - q.from) values.0 values.1).0
 
     pub column_long : length column ≡ length old
-    column_long = rw (g.stored values.0 values.1, length_sets)
+    column_long = rw (g.stored values.0 values.1, length-sets)
 
     first_values : take (q.to - q.from) column ≡ values.0
     first_values =

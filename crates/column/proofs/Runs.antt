@@ -9,7 +9,7 @@ use native.Mathlib.Omega.{arith}
 use native.Mathlib.Nat.{zero-add, add_assoc, add-mul, mul-le-mul_right}
 use lib.Dec.{leb, ltb}
 use lib.ListN.{length, take, drop, get_or, replicate, length-append, length-drop}
-use lib.Seq.{sets, length_sets, length-take-le, take-append-add, get_or-append-add}
+use lib.Seq.{sets, length-sets, length-take-le, take-append-add, get_or-append-add}
 use borrow.Author.Tests.{lt-ltb, le-ltb, le-leb}
 use Rattle.layout.specs.Bytes.{part}
 use Rattle.layout.specs.Answer.{refusal, is}
@@ -211,7 +211,7 @@ module _ (b : List ℕ) (q : Request) (run : Run) (old : List ℕ) (fits : Fits 
     unfolding run_reply
     all_gathered ends new s = record {
       stored = λ i t. (map (field_bits b (run.place + (low - run.first) * run.size) run.size q.offset q.kind) (upto 0 (high - low)), (values i, rw asked-part.place s));
-      kept = rw (s, length_sets);
+      kept = rw (s, length-sets);
       some = λ t. absurd (true≢false t);
       cut = λ i t. absurd (true≢false t);
     }

@@ -50,16 +50,16 @@ fits-T (among ys) x = member-T x ys
 
 -- ---- sets
 
-or_false : (t : Bool) → T (t || false) ↔ T t
-or_false true = Iff.rfl
-or_false false = Iff.rfl
+or-false : (t : Bool) → T (t || false) ↔ T t
+or-false true = Iff.rfl
+or-false false = Iff.rfl
 
 pub data_T : (f : Entry) → T (is_data f) ↔ IsData f
 unfolding is_data
 data_T f =
     let t = f.type in
     Iff.trans (or-T (eqb t 77) (eqb t 65 || (eqb t 71 || false)))
-    (either_iff (eqb-T t 77) (Iff.trans (or-T (eqb t 65) (eqb t 71 || false)) (either_iff (eqb-T t 65) (Iff.trans (or_false (eqb t 71)) (eqb-T t 71)))))
+    (either_iff (eqb-T t 77) (Iff.trans (or-T (eqb t 65) (eqb t 71 || false)) (either_iff (eqb-T t 65) (Iff.trans (or-false (eqb t 71)) (eqb-T t 71)))))
 
 pub non_empty-T : (f : Entry) → T (non_empty f) ↔ NonEmpty f
 unfolding non_empty

@@ -67,13 +67,13 @@ module _ (offsets sizes : List ℕ) where
     sets : List Entry
     sets = map set_at (upto 0 n)
 
-    length_sets : length sets ≡ n
+    length-sets : length sets ≡ n
     unfolding sets
-    length_sets = length-map-upto set_at 0 n
+    length-sets = length-map-upto set_at 0 n
 
     at_set : (i : ℕ) → i < length sets → at sets i ≡ set_at i
     unfolding at sets
-    at_set i l = get_or-map-upto set_at _ 0 n i (omega (arith, length_sets)) ∙ ap set_at (zero-add i)
+    at_set i l = get_or-map-upto set_at _ 0 n i (omega (arith, length-sets)) ∙ ap set_at (zero-add i)
 
     sets_held : Held sets offsets sizes
     unfolding start extent non_empty is_data whole
@@ -110,7 +110,7 @@ module _ (offsets sizes : List ℕ) (entries h n : ℕ) where
       held = sets_held offsets sizes entries
 
       many : length ds ≡ entries
-      many = length_sets offsets sizes entries
+      many = length-sets offsets sizes entries
 
       all : (f : ℕ → Answer) (i m r k p e : ℕ) → first f i m ≡ need (eqb r r) k p e → (j : ℕ) → i ≤ j → j < i + m → f j ≡ accepted
       all f i m r k p e q = (first-accepts f i m).0 (q ∙ rw (eq-eqb r r refl))

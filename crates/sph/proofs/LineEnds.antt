@@ -1,7 +1,7 @@
 -- Where a line ends: what each test of the rest of a line answers, byte by byte and run by run.
 -- Assumes nothing.
 use Prim.Native.Nat.{ℕ, zero, suc, ◌+◌, ◌-◌, ◌≤◌, ◌<◌}
-use mathlib.Core.Bool.{Bool, true, false, cond, ◌&&◌, not, or_false}
+use mathlib.Core.Bool.{Bool, true, false, cond, ◌&&◌, not, or-false}
 use mathlib.Core.List.{List, [], ◌∷◌}
 use mathlib.Core.Logic.{⊎_elim}
 use mathlib.Core.Path.{◌≡◌, refl, sym, ◌∙◌}
@@ -70,7 +70,7 @@ module _ (x : ℕ) (xs : List ℕ) where
 
   blanks_stop : eqb x 32 ≡ false → blanks (x ∷ xs) ≡ ended (x ∷ xs)
   unfolding blanks ended
-  blanks_stop e = rw (e, or_false (eqb x 10))
+  blanks_stop e = rw (e, or-false (eqb x 10))
 
   unquoted_pass : fits plain x ≡ true → unquoted (x ∷ xs) ≡ unquoted xs
   unfolding unquoted
@@ -86,7 +86,7 @@ module _ (x : ℕ) (xs : List ℕ) where
 
   unquoted_stop : fits plain x ≡ false → unquoted (x ∷ xs) ≡ ended (x ∷ xs)
   unfolding unquoted ended
-  unquoted_stop e = rw (e, or_false (eqb x 10))
+  unquoted_stop e = rw (e, or-false (eqb x 10))
 
   quoted_stop : fits plain x ≡ false → quoted (x ∷ xs) ≡ after 34 ended (x ∷ xs)
   unfolding quoted

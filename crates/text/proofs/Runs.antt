@@ -1,7 +1,7 @@
 -- Runs of bytes of one class, over any test t that a bad place passes: some places tested as a whole, and the blocks of a search.
 -- Assumes nothing.
 use Prim.Native.Nat.{ℕ, zero, suc, ◌+◌, ◌-◌, ◌≤◌, ◌<◌}
-use mathlib.Core.Bool.{Bool, true, false, ◌&&◌, ◌||◌, not, or_false, or_assoc}
+use mathlib.Core.Bool.{Bool, true, false, ◌&&◌, ◌||◌, not, or-false, or_assoc}
 use mathlib.Core.Logic.{⊎_elim}
 use mathlib.Core.Path.{◌≡◌, refl, sym, ◌∙◌}
 use native.Mathlib.Omega.{arith}
@@ -17,7 +17,7 @@ module _ (t : ℕ → Bool) where
   -- one place more
   some_more : (n i : ℕ) → some t i (suc n) ≡ (some t i n || t (i + n))
   unfolding some
-  some_more zero i = rw (add-zero i) (or_false (t i))
+  some_more zero i = rw (add-zero i) (or-false (t i))
   some_more (suc n) i = rw (some_more n (suc i), add-suc i n, ← suc-add i n) (sym (or_assoc (t i) (some t (suc i) n) (t (suc i + n))))
 
   -- before the first place, one place more, and the last

@@ -6,7 +6,7 @@ use mathlib.Core.List.{List, [], ◌∷◌, ◌++◌, append-nil}
 use native.Mathlib.Omega.{arith}
 use native.Mathlib.Nat.{add-zero, zero-add, add-suc, suc-add}
 use lib.ListN.{length, take, drop, get_or, set, replicate, length-append, length-drop, length-replicate, replicate-append-replicate}
-use lib.Seq.{sets, sets-eq, length_sets, take-suc, take_at, drop_at, take-append-le, drop-append-le, drop-append-add, take-set-le, drop-set-lt, drop-set-add, drop-length, length-take-le}
+use lib.Seq.{sets, sets-eq, length-sets, take-suc, take_at, drop_at, take-append-le, drop-append-le, drop-append-add, take-set-le, drop-set-lt, drop-set-add, drop-length, length-take-le}
 use Rattle.layout.specs.Bytes.{part}
 use Rattle.writing.specs.Put.{Put, Written}
 
@@ -27,7 +27,7 @@ module _ {A : Type 0} where
   at_most v p h = record { next = p.next; written = p.written; narrow = h }
 
   pub same_room : {w : ℕ} {text old new : List A} {at r : ℕ} → Put w text old new at r → length new ≡ length old
-  same_room {w} {text} {old} {new} {at} p = ap length p.written ∙ length_sets old at text
+  same_room {w} {text} {old} {new} {at} p = ap length p.written ∙ length-sets old at text
 
   -- the text written otherwise
   pub spelled : {w : ℕ} {a b old new : List A} {at r : ℕ} → a ≡ b → Put w a old new at r → Put w b old new at r

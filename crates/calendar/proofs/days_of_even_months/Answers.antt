@@ -5,18 +5,10 @@ use borrow.Author.Rules.{rules}
 use Rattle.calendar.proofs.Days.{even-days, even_most}
 use Rattle.calendar.proofs.days_of_even_months.Goals as goal
 
--- TODO
-sub-from-on : tie.Need-overflow-sub-from-on
-sub-from-on c = search rules
-
--- TODO
-from-on-requires : tie.Need-from-on-requires
-from-on-requires c κs = search rules
-
 pub overflow_add-result : goal.overflow_add-result
-overflow_add-result c = record { fits = omega (arith, even-days c.args.long c.args.days c.missing_days-missing.ensures.0 c.from_on_lem.ensures, even_most c.args.long c.args.days) }
+overflow_add-result c = record { fits = omega (arith, even-days c.args.long c.args.days c.missing_days-missing.ensures.0 c.from_on.ensures, even_most c.args.long c.args.days) }
 
 pub returns : goal.returns
 returns c =
-    let e = even-days c.args.long c.args.days c.missing_days-missing.ensures.0 c.from_on_lem.ensures in
+    let e = even-days c.args.long c.args.days c.missing_days-missing.ensures.0 c.from_on.ensures in
     (e, omega (arith, e, even_most c.args.long c.args.days))

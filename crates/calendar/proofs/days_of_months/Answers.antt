@@ -4,12 +4,8 @@ use borrow.Author.Rules.{rules}
 use Rattle.calendar.proofs.Days.{months-are, months-fit}
 use Rattle.calendar.proofs.days_of_months.Goals as goal
 
--- TODO
-from-on-requires : tie.Need-from-on-requires
-from-on-requires c κs = search rules
-
 pub overflow_sub-result : goal.overflow_sub-result
-overflow_sub-result c = months-fit c.args.long c.args.count c.requires c.missing_days-missing.ensures.0 c.from_on_lem.ensures
+overflow_sub-result c = months-fit c.args.long c.args.count c.requires c.missing_days-missing.ensures.0 c.from_on.ensures
 
 pub returns : goal.returns
-returns c = months-are c.args.long c.args.count c.requires c.missing_days-missing.ensures.0 c.from_on_lem.ensures
+returns c = months-are c.args.long c.args.count c.requires c.missing_days-missing.ensures.0 c.from_on.ensures

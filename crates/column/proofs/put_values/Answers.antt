@@ -4,7 +4,7 @@ use Prim.Native.Nat.{◌+◌, ◌-◌, ◌≤◌}
 use mathlib.Core.Path.{◌≡◌, refl, ◌∙◌}
 use native.Mathlib.Omega.{arith}
 use lib.ListN.{length, take}
-use lib.Seq.{sets, length_sets, take_all}
+use lib.Seq.{sets, length-sets, take_all}
 use Rattle.field_bits.proofs.Stored.{next_copied}
 use Rattle.column.proofs.put_values.Goals as goal
 
@@ -21,7 +21,7 @@ pub offset_bounds-room-i : goal.offset_bounds-room-i
 offset_bounds-room-i c = omega arith
 
 pub bounds-room-i : goal.bounds-room-i
-bounds-room-i c = rw (c.loop-i.invariant.1, length_sets) (omega arith)
+bounds-room-i c = rw (c.loop-i.invariant.1, length-sets) (omega arith)
 
 pub overflow_add-i : goal.overflow_add-i
 overflow_add-i c = omega arith
@@ -37,7 +37,7 @@ loop-i-preserved c =
     (more, next_copied _ values _ t.i (omega arith) t.invariant.1)
 
 pub shape_of-room : goal.shape_of-room
-shape_of-room c = rw (c.loop-i.invariant.1, length_sets)
+shape_of-room c = rw (c.loop-i.invariant.1, length-sets)
 
 pub returns : goal.returns
 returns c = c.loop-i.invariant.1 ∙ rw (take_all c.loop-i.i c.args.values.now (omega arith))

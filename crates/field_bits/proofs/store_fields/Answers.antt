@@ -4,7 +4,7 @@ use Prim.Native.Nat.{◌+◌, ◌*◌, ◌-◌, ◌≤◌}
 use mathlib.Core.List.{map}
 use mathlib.Core.Path.{◌≡◌, refl, ◌∙◌}
 use native.Mathlib.Omega.{arith}
-use lib.Seq.{sets, length_sets}
+use lib.Seq.{sets, length-sets}
 use Rattle.layout.specs.Search.{upto}
 use Rattle.writing.proofs.Puts.{lent_part, lent_length}
 use Rattle.field_bits.specs.Bits.{field_bits}
@@ -44,7 +44,7 @@ pub offset_bounds-column-at : goal.offset_bounds-column-at
 offset_bounds-column-at c = omega arith
 
 pub bounds-column-at : goal.bounds-column-at
-bounds-column-at c = rw (c.loop-k.invariant.1, length_sets) (omega arith)
+bounds-column-at c = rw (c.loop-k.invariant.1, length-sets) (omega arith)
 
 pub overflow_add-k : goal.overflow_add-k
 overflow_add-k c = omega arith
@@ -60,7 +60,7 @@ loop-k-preserved c =
     (more, next-stored (field_bits c.args.p.now c.args.place c.args.size c.args.offset c.args.kind) _ _ _ t.k _ t.invariant.1 (c.bits_at.ensures ∙ rw lent_part))
 
 pub shape_of-column : goal.shape_of-column
-shape_of-column c = rw (c.loop-k.invariant.1, length_sets)
+shape_of-column c = rw (c.loop-k.invariant.1, length-sets)
 
 pub returns : goal.returns
 returns c =

@@ -2,7 +2,7 @@ use Prim.Native.Nat.{◌+◌, ◌*◌, ◌-◌, ◌≤◌}
 use mathlib.Core.List.{map}
 use mathlib.Core.Path.{◌≡◌, refl, ◌∙◌}
 use native.Mathlib.Omega.{arith}
-use lib.Seq.{sets, length_sets}
+use lib.Seq.{sets, length-sets}
 use Rattle.layout.specs.Search.{upto}
 use Rattle.writing.proofs.Puts.{lent_part, lent_length}
 use Rattle.field_bits.specs.Bits.{field_bits}

@@ -18,11 +18,11 @@ returns-then-not-ends_in c =
     let a = c.args in
     let u = c.width_of-width.ensures in
     c.refused_field-then-not-ends_in.ensures
-    ∙ no_room a.bytes.now a.entry a.offset a.kind (rw u at c.if-width-eq0.false) (rw u at (sym c.ends_in.ensures ∙ not-true _ c.if-not-ends_in.true))
+    ∙ no_room a.bytes.now a.entry a.offset a.kind (rw u at c.if-width-eq0.false) (rw u at (sym c.ends_in.ensures ∙ c.if-not-ends_in.true))
 
 pub value_at-requires : goal.value_at-requires
 value_at-requires c =
-    (c.width_of-width.ensures, omega arith, leb-true _ _ (sym c.ends_in.ensures ∙ not-false _ c.if-not-ends_in.false))
+    (c.width_of-width.ensures, omega arith, leb-true _ _ (sym c.ends_in.ensures ∙ c.if-not-ends_in.false))
 
 pub returns : goal.returns
 unfolding field_answer_is
@@ -30,4 +30,4 @@ returns c =
     let a = c.args in
     let u = c.width_of-width.ensures in
     ap is c.value_at.ensures
-    ∙ all_there a.bytes.now a.entry a.offset a.kind (rw u at c.if-width-eq0.false) (rw u at (sym c.ends_in.ensures ∙ not-false _ c.if-not-ends_in.false))
+    ∙ all_there a.bytes.now a.entry a.offset a.kind (rw u at c.if-width-eq0.false) (rw u at (sym c.ends_in.ensures ∙ c.if-not-ends_in.false))

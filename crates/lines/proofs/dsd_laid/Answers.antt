@@ -19,7 +19,7 @@ returns-then-not-laid_in-2 c = λ e. absurd (false≢true e)
 
 pub returns : goal.returns
 returns c = λ h.
-    let to-128 = stand _ _ _ _ _ 0 128 _ c.laid_in.ensures (not-false _ c.if-not-laid_in.false) in
-    let to-256 = stand _ _ _ _ _ 128 256 _ c.laid_in-2.ensures (not-false _ c.if-not-laid_in-2.false) in
+    let to-128 = stand _ _ _ _ _ 0 128 _ c.laid_in.ensures c.if-not-laid_in.false in
+    let to-256 = stand _ _ _ _ _ 128 256 _ c.laid_in-2.ensures c.if-not-laid_in-2.false in
     let rest = stand _ _ _ _ _ 256 280 _ c.laid_in-3.ensures h in
-    dsd-laid _ _ _ _ _ c.requires.1 (stand_on (omega arith) to-128 (stand_on (omega arith) to-256 rest)) (sym c.is_type.ensures ∙ not-false _ c.if-not-is_type.false)
+    dsd-laid _ _ _ _ _ c.requires.1 (stand_on (omega arith) to-128 (stand_on (omega arith) to-256 rest)) (sym c.is_type.ensures ∙ c.if-not-is_type.false)

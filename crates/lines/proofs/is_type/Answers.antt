@@ -1,6 +1,6 @@
 -- `lines::is_type` meets its contract: the class of a type by its tests.
 -- Assumes nothing.
-use mathlib.Core.Bool.{or_false}
+use mathlib.Core.Bool.{or-false}
 use mathlib.Core.Path.{sym}
 use borrow.Author.Tests.{eq-eqb, ne_eqb}
 use Rattle.layout.specs.Text.{fits}
@@ -20,4 +20,4 @@ returns-then-x-eq71 c = simp (ne_eqb _ _ c.if-x-eq77.false, ne_eqb _ _ c.if-x-eq
 
 pub returns : goal.returns
 unfolding fits
-returns c = rw (ne_eqb _ 77 c.if-x-eq77.false, ne_eqb _ 65 c.if-x-eq65.false, ne_eqb _ 71 c.if-x-eq71.false) (sym (or_false _))
+returns c = rw (ne_eqb _ 77 c.if-x-eq77.false, ne_eqb _ 65 c.if-x-eq65.false, ne_eqb _ 71 c.if-x-eq71.false) (sym (or-false _))

@@ -30,9 +30,9 @@ laid_in-requires-5 c =
 pub returns : goal.returns
 unfolding narrow strict layout mph line_classes value_classes
 returns c = λ h.
-    let to-256 = stand _ _ _ _ 0 0 256 _ c.laid_in.ensures (not-false _ c.if-not-laid_in.false) in
-    let to-512 = stand _ _ _ _ 0 256 512 _ c.laid_in-2.ensures (not-false _ c.if-not-laid_in-2.false) in
-    let to-768 = stand _ _ _ _ 0 512 768 _ c.laid_in-3.ensures (not-false _ c.if-not-laid_in-3.false) in
-    let to-1024 = stand _ _ _ _ 0 768 1024 _ c.laid_in-4.ensures (not-false _ c.if-not-laid_in-4.false) in
+    let to-256 = stand _ _ _ _ 0 0 256 _ c.laid_in.ensures c.if-not-laid_in.false in
+    let to-512 = stand _ _ _ _ 0 256 512 _ c.laid_in-2.ensures c.if-not-laid_in-2.false in
+    let to-768 = stand _ _ _ _ 0 512 768 _ c.laid_in-3.ensures c.if-not-laid_in-3.false in
+    let to-1024 = stand _ _ _ _ 0 768 1024 _ c.laid_in-4.ensures c.if-not-laid_in-4.false in
     let rest = stand _ _ _ _ 0 1024 1247 _ c.laid_in-5.ensures h in
     strict-laid (layout mph) _ _ _ _ 0 tt (stand_on (omega arith) to-256 (stand_on (omega arith) to-512 (stand_on (omega arith) to-768 (stand_on (omega arith) to-1024 rest))))

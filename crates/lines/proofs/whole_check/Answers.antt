@@ -9,7 +9,7 @@ use Rattle.lines.proofs.Values.{whole-bad, whole-good}
 use Rattle.lines.proofs.whole_check.Goals as goal
 
 pub returns-then-not-is_sign : goal.returns-then-not-is_sign
-returns-then-not-is_sign c = whole-bad _ _ _ (sym c.is_sign.ensures ∙ not-true _ c.if-not-is_sign.true)
+returns-then-not-is_sign c = whole-bad _ _ _ (sym c.is_sign.ensures ∙ c.if-not-is_sign.true)
 
 pub returns : goal.returns
-returns c = whole-good _ _ _ _ (sym c.is_sign.ensures ∙ not-false _ c.if-not-is_sign.false) (c.first_not_digit.ensures ∙ run_bad digit _ _ _)
+returns c = whole-good _ _ _ _ (sym c.is_sign.ensures ∙ c.if-not-is_sign.false) (c.first_not_digit.ensures ∙ run_bad digit _ _ _)

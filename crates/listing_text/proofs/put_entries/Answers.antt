@@ -5,7 +5,7 @@ use mathlib.Core.Path.{◌≡◌, sym, ap}
 use native.Mathlib.Omega.{arith}
 use lib.ListN.{get_or, length-map}
 use lib.IntN.{pos}
-use lib.Seq.{length_sets}
+use lib.Seq.{length-sets}
 use mir.Syntax.{w64}
 use mir.Val.{to_z, of_z}
 use mir.Facts.{to_z-of_z}
@@ -54,7 +54,7 @@ bounds-directory-i-in-loop-i-5 c = omega arith
 pub put_entry-next-requires : goal.put_entry-next-requires
 put_entry-next-requires c =
     let put = c.loop-i.invariant.1 in
-    (rw (put.written, length_sets c.args.out.now c.args.at) (omega (arith, c.requires, put.next, put.narrow)), (omega arith, simp length-map at s.well-formed.1.1.0.1.1.1.1.0.1.0.1))
+    (rw (put.written, length-sets c.args.out.now c.args.at) (omega (arith, c.requires, put.next, put.narrow)), (omega arith, simp length-map at s.well-formed.1.1.0.1.1.1.1.0.1.0.1))
 
 pub overflow_add-i : goal.overflow_add-i
 overflow_add-i c = omega arith
@@ -74,7 +74,7 @@ loop-i-preserved c =
     (omega arith, at_most (164 * (i + 1)) more (omega (arith, more.narrow)))
 
 pub shape_of-out : goal.shape_of-out
-shape_of-out c = rw (c.loop-i.invariant.1.written, length_sets)
+shape_of-out c = rw (c.loop-i.invariant.1.written, length-sets)
 
 pub returns : goal.returns
 returns c =

@@ -17,7 +17,7 @@ pub returns-then-not-has_variable : goal.returns-then-not-has_variable
 unfolding verdict_is
 returns-then-not-has_variable c =
     let o = c.check_headers-headers.ensures in
-    not_variable _ _ _ o.judged o.held c.enum_told-in_default-1.given.1 (sym c.has_variable.ensures ∙ not-true _ c.if-not-has_variable.true)
+    not_variable _ _ _ o.judged o.held c.enum_told-in_default-1.given.1 (sym c.has_variable.ensures ∙ c.if-not-has_variable.true)
 
 pub judge_states-requires : goal.judge_states-requires
 judge_states-requires c =

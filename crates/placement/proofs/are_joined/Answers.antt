@@ -31,7 +31,7 @@ pub returns-then-not-follows : goal.returns-then-not-follows
 returns-then-not-follows c = λ e. absurd (false≢true e)
 
 pub overflow_add-end : goal.overflow_add-end
-overflow_add-end c = let next = c.follows.ensures (not-false _ c.if-not-follows.false) in omega (arith, next.1)
+overflow_add-end c = let next = c.follows.ensures c.if-not-follows.false in omega (arith, next.1)
 
 pub overflow_add-i : goal.overflow_add-i
 overflow_add-i c = omega arith
@@ -41,7 +41,7 @@ loop-i-smaller c = omega arith
 
 pub loop-i-preserved : goal.loop-i-preserved
 loop-i-preserved c =
-    let next = c.follows.ensures (not-false _ c.if-not-follows.false) in
+    let next = c.follows.ensures c.if-not-follows.false in
     let inv = c.loop-i.invariant in
     (omega arith, omega arith, next.1, joined_more _ _ _ _ _ inv.1 inv.3 next.0)
 

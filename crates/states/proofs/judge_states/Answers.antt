@@ -13,7 +13,7 @@ has_variable-requires c =
 
 pub returns-then-not-has_variable : goal.returns-then-not-has_variable
 unfolding verdict_is
-returns-then-not-has_variable c = λ ds n held fits. sym (no_variable _ ds n held fits _ (sym c.has_variable.ensures ∙ not-true _ c.if-not-has_variable.true))
+returns-then-not-has_variable c = λ ds n held fits. sym (no_variable _ ds n held fits _ (sym c.has_variable.ensures ∙ c.if-not-has_variable.true))
 
 pub states_span-span-requires : goal.states_span-span-requires
 states_span-span-requires c = (_, c.requires)

@@ -16,14 +16,14 @@ has_variable-requires c = most c{-TODO place After-roles2-}
 
 pub returns-then-not-has_variable : goal.returns-then-not-has_variable
 unfolding verdict_is
-returns-then-not-has_variable c = λ ds n held fits. sym (no_variable _ ds n held fits _ (sym c.has_variable.ensures ∙ not-true _ c.if-not-has_variable.true))
+returns-then-not-has_variable c = λ ds n held fits. sym (no_variable _ ds n held fits _ (sym c.has_variable.ensures ∙ c.if-not-has_variable.true))
 
 pub only_states-i-requires : goal.only_states-i-requires
 only_states-i-requires c = most c{-TODO place After-roles3-}
 
 pub returns-then-i-entries : goal.returns-then-i-entries
 returns-then-i-entries c =
-    λ ds n held fits. c.refuse.ensures ∙ sym (none_described _ ds n held fits _ c.only_states-i.ensures _ (sym c.has_variable.ensures ∙ not-false _ c.if-not-has_variable.false) c.if-i-entries.true)
+    λ ds n held fits. c.refuse.ensures ∙ sym (none_described _ ds n held fits _ c.only_states-i.ensures _ (sym c.has_variable.ensures ∙ c.if-not-has_variable.false) c.if-i-entries.true)
 
 pub judge_described-requires : goal.judge_described-requires
 judge_described-requires c =
@@ -32,4 +32,4 @@ judge_described-requires c =
 
 pub returns : goal.returns
 returns c =
-    λ ds n held fits. c.judge_described.ensures ∙ one_described _ ds n held fits _ c.only_states-i.ensures _ (sym c.has_variable.ensures ∙ not-false _ c.if-not-has_variable.false) c.if-i-entries.false
+    λ ds n held fits. c.judge_described.ensures ∙ one_described _ ds n held fits _ c.only_states-i.ensures _ (sym c.has_variable.ensures ∙ c.if-not-has_variable.false) c.if-i-entries.false

@@ -33,7 +33,7 @@ pub loop-i-smaller : goal.loop-i-smaller
 loop-i-smaller c = omega arith
 
 pub loop-i-preserved : goal.loop-i-preserved
-loop-i-preserved c = skipped_block _ _ _ _ c.loop-i.invariant _ _ (omega arith) c.blanks_in.ensures (not-false _ c.if-not-blanks_in.false)
+loop-i-preserved c = skipped_block _ _ _ _ c.loop-i.invariant _ _ (omega arith) c.blanks_in.ensures c.if-not-blanks_in.false
 
 pub overflow_sub-to-2 : goal.overflow_sub-to-2
 overflow_sub-to-2 c = omega arith

@@ -27,4 +27,4 @@ pub blank_blocks-requires : goal.blank_blocks-requires
 blank_blocks-requires c = (c.blank_blocks-wide.ensures.high, omega arith, omega arith)
 
 pub returns : goal.returns
-returns c = skipped_run _ _ _ 16 _ _ _ (omega arith) c.blanks_in.ensures (not-false _ c.if-not-blanks_in.false) c.blank_blocks-wide.ensures c.blank_blocks.ensures
+returns c = skipped_run _ _ _ 16 _ _ _ (omega arith) c.blanks_in.ensures c.if-not-blanks_in.false c.blank_blocks-wide.ensures c.blank_blocks.ensures

@@ -11,7 +11,7 @@ use Rattle.text.proofs.Tests.{is_blank, not-blank}
 use Rattle.text.proofs.first_not_blank.Goals as goal
 
 pub loop-i-init : goal.loop-i-init
-loop-i-init c = (c.blank_run-i.ensures.high, c.blank_run-i.ensures.false)
+loop-i-init c = (c.blank_run-i.ensures.high, c.blank_run-i.ensures.left)
 
 pub bounds-p-i : goal.bounds-p-i
 bounds-p-i c = omega arith

@@ -13,13 +13,13 @@ use Rattle.text.proofs.Tests.{passing, failing}
 use Rattle.text.proofs.first_not_plain.Goals as goal
 
 pub loop-i-init : goal.loop-i-init
-loop-i-init c = (c.plain_run-i.ensures.high, c.plain_run-i.ensures.false)
+loop-i-init c = (c.plain_run-i.ensures.high, c.plain_run-i.ensures.left)
 
 pub bounds-p-i : goal.bounds-p-i
 bounds-p-i c = omega arith
 
 pub returns-then-not-is_plain : goal.returns-then-not-is_plain
-returns-then-not-is_plain c = find_hit _ _ _ _ c.loop-i.invariant.1 (omega arith) (failing _ _ (fits plain) _ c.is_plain.ensures (not-true _ c.if-not-is_plain.true))
+returns-then-not-is_plain c = find_hit _ _ _ _ c.loop-i.invariant.1 (omega arith) (failing _ _ (fits plain) _ c.is_plain.ensures c.if-not-is_plain.true)
 
 pub overflow_add-i : goal.overflow_add-i
 overflow_add-i c = omega arith
@@ -28,7 +28,7 @@ pub loop-i-smaller : goal.loop-i-smaller
 loop-i-smaller c = omega arith
 
 pub loop-i-preserved : goal.loop-i-preserved
-loop-i-preserved c = (omega arith, find-next _ _ _ _ c.loop-i.invariant.1 (omega arith) (passing _ _ (fits plain) _ c.is_plain.ensures (not-false _ c.if-not-is_plain.false)))
+loop-i-preserved c = (omega arith, find-next _ _ _ _ c.loop-i.invariant.1 (omega arith) (passing _ _ (fits plain) _ c.is_plain.ensures c.if-not-is_plain.false))
 
 pub returns : goal.returns
 returns c = find_none _ _ _ _ c.loop-i.invariant.1 (omega arith) (omega arith)

@@ -27,7 +27,7 @@ pub loop-i-smaller : goal.loop-i-smaller
 loop-i-smaller c = omega arith
 
 pub loop-i-preserved : goal.loop-i-preserved
-loop-i-preserved c = skipped_block _ _ _ _ c.loop-i.invariant _ _ (omega arith) c.plain_in.ensures (not-false _ c.if-not-plain_in.false)
+loop-i-preserved c = skipped_block _ _ _ _ c.loop-i.invariant _ _ (omega arith) c.plain_in.ensures c.if-not-plain_in.false
 
 pub returns : goal.returns
 returns c = c.loop-i.invariant

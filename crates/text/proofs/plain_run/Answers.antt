@@ -27,4 +27,4 @@ pub plain_blocks-requires : goal.plain_blocks-requires
 plain_blocks-requires c = (c.plain_blocks-wide.ensures.high, omega arith, omega arith)
 
 pub returns : goal.returns
-returns c = skipped_run _ _ _ 16 _ _ _ (omega arith) c.plain_in.ensures (not-false _ c.if-not-plain_in.false) c.plain_blocks-wide.ensures c.plain_blocks.ensures
+returns c = skipped_run _ _ _ 16 _ _ _ (omega arith) c.plain_in.ensures c.if-not-plain_in.false c.plain_blocks-wide.ensures c.plain_blocks.ensures

@@ -5,7 +5,7 @@ use mathlib.Core.Path.{◌≡◌, refl, ◌∙◌}
 use native.Mathlib.Omega.{arith}
 use native.Mathlib.Numerals.{add-one}
 use lib.ListN.{length, take}
-use lib.Seq.{sets, length_sets, take_all}
+use lib.Seq.{sets, length-sets, take_all}
 use Rattle.writing.proofs.Puts.{one_more}
 use Rattle.words.proofs.put_bytes.Goals as goal
 
@@ -25,7 +25,7 @@ pub offset_bounds-room-at : goal.offset_bounds-room-at
 offset_bounds-room-at c = omega arith
 
 pub bounds-room-at : goal.bounds-room-at
-bounds-room-at c = rw (c.loop-i.invariant.1, length_sets) (omega arith)
+bounds-room-at c = rw (c.loop-i.invariant.1, length-sets) (omega arith)
 
 pub overflow_add-i : goal.overflow_add-i
 overflow_add-i c = omega arith
@@ -45,7 +45,7 @@ pub overflow_add-result : goal.overflow_add-result
 overflow_add-result c = omega arith
 
 pub shape_of-room : goal.shape_of-room
-shape_of-room c = rw (c.loop-i.invariant.1, length_sets)
+shape_of-room c = rw (c.loop-i.invariant.1, length-sets)
 
 pub returns : goal.returns
 returns c = record { next = refl; written = c.loop-i.invariant.1 ∙ rw (take_all c.loop-i.i c.args.bytes.now (omega arith)); narrow = omega arith }

@@ -3,7 +3,7 @@ use mathlib.Core.Path.{◌≡◌, refl, sym, ap, ◌∙◌}
 use native.Mathlib.Omega.{arith}
 use native.Mathlib.Numerals.{add-one}
 use lib.ListN.{length, take, get_or, length-map, get_or-map}
-use lib.Seq.{sets, length_sets, take_all}
+use lib.Seq.{sets, length-sets, take_all}
 use Rattle.writing.proofs.Puts.{one_more}
 use mathlib.Core.List.{map}
 use lib.IntN.{pos}

@@ -3,7 +3,7 @@ use mathlib.Core.Path.{◌≡◌, refl, ◌∙◌}
 use native.Mathlib.Omega.{arith}
 use native.Mathlib.Numerals.{add-one}
 use lib.ListN.{length, take}
-use lib.Seq.{sets, length_sets, take_all}
+use lib.Seq.{sets, length-sets, take_all}
 use Rattle.writing.proofs.Puts.{one_more}
 use Rattle.words.proofs.put_words.Given as goal
 

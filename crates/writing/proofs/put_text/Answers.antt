@@ -5,7 +5,7 @@ use mathlib.Core.Path.{◌≡◌, refl, ◌∙◌}
 use native.Mathlib.Omega.{arith}
 use native.Mathlib.Numerals.{add-one}
 use lib.ListN.{length, take}
-use lib.Seq.{sets, length_sets, take_all}
+use lib.Seq.{sets, length-sets, take_all}
 use Rattle.writing.proofs.Puts.{one_more}
 use Rattle.writing.proofs.put_text.Goals as goal
 
@@ -19,7 +19,7 @@ pub overflow_add-out : goal.overflow_add-out
 overflow_add-out c = omega arith
 
 pub bounds-out-at : goal.bounds-out-at
-bounds-out-at c = rw (c.loop-i.invariant.1, length_sets) (omega arith)
+bounds-out-at c = rw (c.loop-i.invariant.1, length-sets) (omega arith)
 
 pub overflow_add-i : goal.overflow_add-i
 overflow_add-i c = omega arith
@@ -38,7 +38,7 @@ pub overflow_add-result : goal.overflow_add-result
 overflow_add-result c = omega arith
 
 pub shape_of-out : goal.shape_of-out
-shape_of-out c = rw (c.loop-i.invariant.1, length_sets)
+shape_of-out c = rw (c.loop-i.invariant.1, length-sets)
 
 pub returns : goal.returns
 returns c = record { next = refl; written = c.loop-i.invariant.1 ∙ rw (take_all c.loop-i.i c.args.text.now (omega arith)); narrow = omega arith }

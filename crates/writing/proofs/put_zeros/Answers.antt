@@ -4,7 +4,7 @@ use Prim.Native.Nat.{◌-◌, ◌≤◌}
 use mathlib.Core.Path.{◌≡◌, refl, ◌∙◌}
 use native.Mathlib.Omega.{arith}
 use lib.ListN.{replicate, length-replicate}
-use lib.Seq.{sets, length_sets}
+use lib.Seq.{sets, length-sets}
 use Rattle.writing.proofs.Puts.{once_more}
 use Rattle.writing.proofs.put_zeros.Goals as goal
 
@@ -15,7 +15,7 @@ pub overflow_add-out : goal.overflow_add-out
 overflow_add-out c = omega arith
 
 pub bounds-out-at : goal.bounds-out-at
-bounds-out-at c = rw (c.loop-i.invariant.1, length_sets) (omega arith)
+bounds-out-at c = rw (c.loop-i.invariant.1, length-sets) (omega arith)
 
 pub overflow_add-i : goal.overflow_add-i
 overflow_add-i c = omega arith
@@ -33,7 +33,7 @@ pub overflow_add-result : goal.overflow_add-result
 overflow_add-result c = omega arith
 
 pub shape_of-out : goal.shape_of-out
-shape_of-out c = rw (c.loop-i.invariant.1, length_sets)
+shape_of-out c = rw (c.loop-i.invariant.1, length-sets)
 
 pub returns : goal.returns
 returns c =

@@ -2,7 +2,7 @@ use Prim.Native.Nat.{◌-◌, ◌≤◌}
 use mathlib.Core.Path.{◌≡◌, refl, ◌∙◌}
 use native.Mathlib.Omega.{arith}
 use lib.ListN.{replicate, length-replicate}
-use lib.Seq.{sets, length_sets}
+use lib.Seq.{sets, length-sets}
 use Rattle.writing.proofs.Puts.{once_more}
 use Rattle.writing.proofs.put_zeros.Given as goal
 

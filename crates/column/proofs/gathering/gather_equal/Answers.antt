@@ -37,13 +37,13 @@ gather_run-requires c =
 
 pub returns-then-not-gather_run : goal.returns-then-not-gather_run
 returns-then-not-gather_run c =
-    equal_cut c.args.p.now c.args.sets c.requires.0 c.args.entry c.requires.1 c.requires.2 c.args.request c.args.column.now c.requires.3 (omega arith) _ _ c.gather_run.ensures (not-true _ c.if-not-gather_run.true) _ c.refuse-then-not-gather_run.ensures
+    equal_cut c.args.p.now c.args.sets c.requires.0 c.args.entry c.requires.1 c.requires.2 c.args.request c.args.column.now c.requires.3 (omega arith) _ _ c.gather_run.ensures c.if-not-gather_run.true _ c.refuse-then-not-gather_run.ensures
 
 pub returns-then-run-request : goal.returns-then-run-request
 returns-then-run-request c =
-    equal_few c.args.p.now c.args.sets c.requires.0 c.args.entry c.requires.1 c.requires.2 c.args.request c.args.column.now c.requires.3 (omega arith) _ _ c.gather_run.ensures (not-false _ c.if-not-gather_run.false) (omega arith) _ c.refuse-then-run-request.ensures
+    equal_few c.args.p.now c.args.sets c.requires.0 c.args.entry c.requires.1 c.requires.2 c.args.request c.args.column.now c.requires.3 (omega arith) _ _ c.gather_run.ensures c.if-not-gather_run.false (omega arith) _ c.refuse-then-run-request.ensures
 
 pub returns : goal.returns
 unfolding verdict_is
 returns c =
-    equal_all c.args.p.now c.args.sets c.requires.0 c.args.entry c.requires.1 c.requires.2 c.args.request c.args.column.now c.requires.3 (omega arith) _ _ c.gather_run.ensures (not-false _ c.if-not-gather_run.false) (omega arith) _ refl
+    equal_all c.args.p.now c.args.sets c.requires.0 c.args.entry c.requires.1 c.requires.2 c.args.request c.args.column.now c.requires.3 (omega arith) _ _ c.gather_run.ensures c.if-not-gather_run.false (omega arith) _ refl

@@ -18,7 +18,7 @@ pub returns-then-not-ends_in : goal.returns-then-not-ends_in
 returns-then-not-ends_in c =
     let g = c.greater-low.ensures in
     let e = c.lesser-high.ensures in
-    cut_gathered c.args.p.now c.args.request c.args.run c.args.column.now c.requires.0 c.requires.1 _ _ g e c.if-high-low.false (rw c.width_of-width.ensures at (sym c.ends_in.ensures ∙ not-true _ c.if-not-ends_in.true))
+    cut_gathered c.args.p.now c.args.request c.args.run c.args.column.now c.requires.0 c.requires.1 _ _ g e c.if-high-low.false (rw c.width_of-width.ensures at (sym c.ends_in.ensures ∙ c.if-not-ends_in.true))
 
 pub overflow_sub-place : goal.overflow_sub-place
 overflow_sub-place c =
@@ -49,7 +49,7 @@ store_fields-requires c =
     let g = c.greater-low.ensures in
     let e = c.lesser-high.ensures in
     let w = c.width_of-width in
-    let ends = rw w.ensures at (leb-true (c.args.request.offset + w.result) c.args.run.size (sym c.ends_in.ensures ∙ not-false _ c.if-not-ends_in.false)) in
+    let ends = rw w.ensures at (leb-true (c.args.request.offset + w.result) c.args.run.size (sym c.ends_in.ensures ∙ c.if-not-ends_in.false)) in
     (in_column c.args.p.now c.args.request c.args.run c.args.column.now c.requires.0 c.requires.1 _ _ g e c.if-high-low.false, in_product c.args.p.now c.args.request c.args.run c.args.column.now c.requires.0 c.requires.1 _ _ g e c.if-high-low.false, c.requires.0.known, c.requires.0.narrow, ends)
 
 pub returns : goal.returns
@@ -57,5 +57,5 @@ returns c =
     let g = c.greater-low.ensures in
     let e = c.lesser-high.ensures in
     let w = c.width_of-width in
-    let ends = rw w.ensures at (leb-true (c.args.request.offset + w.result) c.args.run.size (sym c.ends_in.ensures ∙ not-false _ c.if-not-ends_in.false)) in
+    let ends = rw w.ensures at (leb-true (c.args.request.offset + w.result) c.args.run.size (sym c.ends_in.ensures ∙ c.if-not-ends_in.false)) in
     all_gathered c.args.p.now c.args.request c.args.run c.args.column.now c.requires.0 c.requires.1 _ _ g e c.if-high-low.false ends _ c.store_fields.ensures

@@ -4,7 +4,7 @@ use Prim.Native.Nat.{◌-◌, ◌≤◌, ◌<◌}
 use mathlib.Core.Path.{◌≡◌, refl, ◌∙◌}
 use native.Mathlib.Omega.{arith}
 use lib.ListN.{length}
-use lib.Seq.{length_sets}
+use lib.Seq.{length-sets}
 use borrow.Author.Tests.{not-true, not-false}
 use borrow.Author.Rules.{rules}
 use Rattle.layout.specs.Answers.{verdict_is}
@@ -56,14 +56,14 @@ gather_run-requires c =
     let read = c.at-state in
     let m = c.adds_to in
     let next = rest_lengths c.args.p.now c.args.span.place c.args.span.count c.args.kind c.loop-i.i (state_is read.result) m.result c.loop-i-test.true read.ensures m.ensures.0 in
-    let same : length c.loop-i.column ≡ length c.args.column.now = rw (w.stored, length_sets) in
+    let same : length c.loop-i.column ≡ length c.args.column.now = rw (w.stored, length-sets) in
     (rw same c.requires.0, omega (arith, (run_inside c.args.p.now c.args.entry c.args.request c.args.begin ns c.args.column.now w m.result read.result.record_length _ next).0, c.requires.2), omega (arith, (run_inside c.args.p.now c.args.entry c.args.request c.args.begin ns c.args.column.now w m.result read.result.record_length _ next).1, c.requires.3))
 
 pub refuse-requires : goal.refuse-requires
 refuse-requires c = tt
 
 pub shape_of-column-then-not-gather_run : goal.shape_of-column-then-not-gather_run
-shape_of-column-then-not-gather_run c = c.gather_run.ensures.kept ∙ rw (c.loop-i.invariant.2.stored, length_sets)
+shape_of-column-then-not-gather_run c = c.gather_run.ensures.kept ∙ rw (c.loop-i.invariant.2.stored, length-sets)
 
 pub returns-then-not-gather_run : goal.returns-then-not-gather_run
 unfolding state_is state_from
@@ -73,7 +73,7 @@ returns-then-not-gather_run c =
     let read = c.at-state in
     let m = c.adds_to in
     let next = rest_lengths c.args.p.now c.args.span.place c.args.span.count c.args.kind c.loop-i.i (state_is read.result) m.result c.loop-i-test.true read.ensures m.ensures.0 in
-    cut_short c.args.p.now c.args.entry c.args.request c.args.begin ns c.args.column.now c.requires.0 w _ _ _ _ _ next c.gather_run.ensures (not-true _ c.if-not-gather_run.true) _ c.refuse.ensures _
+    cut_short c.args.p.now c.args.entry c.args.request c.args.begin ns c.args.column.now c.requires.0 w _ _ _ _ _ next c.gather_run.ensures c.if-not-gather_run.true _ c.refuse.ensures _
 
 pub overflow_add-first : goal.overflow_add-first
 unfolding state_is state_from
@@ -86,7 +86,7 @@ overflow_add-first c =
     omega (arith, (run_inside c.args.p.now c.args.entry c.args.request c.args.begin ns c.args.column.now w m.result read.result.record_length _ next).1, c.requires.3)
 
 pub shape_of-column-then-request-first : goal.shape_of-column-then-request-first
-shape_of-column-then-request-first c = c.gather_run.ensures.kept ∙ rw (c.loop-i.invariant.2.stored, length_sets)
+shape_of-column-then-request-first c = c.gather_run.ensures.kept ∙ rw (c.loop-i.invariant.2.stored, length-sets)
 
 pub returns-then-request-first : goal.returns-then-request-first
 unfolding verdict_is state_is state_from
@@ -96,7 +96,7 @@ returns-then-request-first c =
     let read = c.at-state in
     let m = c.adds_to in
     let next = rest_lengths c.args.p.now c.args.span.place c.args.span.count c.args.kind c.loop-i.i (state_is read.result) m.result c.loop-i-test.true read.ensures m.ensures.0 in
-    all_there c.args.p.now c.args.entry c.args.request c.args.begin ns c.args.column.now c.requires.0 (walked_on c.args.p.now c.args.entry c.args.request c.args.begin ns c.args.column.now c.requires.0 w _ _ _ _ _ next c.gather_run.ensures (not-false _ c.if-not-gather_run.false)) (omega arith) _ refl
+    all_there c.args.p.now c.args.entry c.args.request c.args.begin ns c.args.column.now c.requires.0 (walked_on c.args.p.now c.args.entry c.args.request c.args.begin ns c.args.column.now c.requires.0 w _ _ _ _ _ next c.gather_run.ensures c.if-not-gather_run.false) (omega arith) _ refl
 
 pub overflow_mul-place : goal.overflow_mul-place
 unfolding state_is state_from
@@ -132,13 +132,13 @@ loop-i-preserved c =
     let read = c.at-state in
     let m = c.adds_to in
     let next = rest_lengths c.args.p.now c.args.span.place c.args.span.count c.args.kind c.loop-i.i (state_is read.result) m.result c.loop-i-test.true read.ensures m.ensures.0 in
-    (omega (arith, c.loop-i-test.true), omega arith, (walked_on c.args.p.now c.args.entry c.args.request c.args.begin ns c.args.column.now c.requires.0 w _ _ _ _ _ next c.gather_run.ensures (not-false _ c.if-not-gather_run.false)))
+    (omega (arith, c.loop-i-test.true), omega arith, (walked_on c.args.p.now c.args.entry c.args.request c.args.begin ns c.args.column.now c.requires.0 w _ _ _ _ _ next c.gather_run.ensures c.if-not-gather_run.false))
 
 pub refuse-requires-2 : goal.refuse-requires-2
 refuse-requires-2 c = tt
 
 pub shape_of-column : goal.shape_of-column
-shape_of-column c = rw (c.loop-i.invariant.2.stored, length_sets)
+shape_of-column c = rw (c.loop-i.invariant.2.stored, length-sets)
 
 pub returns : goal.returns
 returns c =

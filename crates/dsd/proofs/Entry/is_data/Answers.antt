@@ -1,7 +1,7 @@
 -- `dsd::Entry::is_data` meets its contract.
 -- Assumes nothing.
 use borrow.Author.Tests.{eq-eqb, ne_eqb}
-use mathlib.Core.Bool.{or-true, or_false}
+use mathlib.Core.Bool.{or-true, or-false}
 use mathlib.Core.Path.{sym}
 use lib.Dec.{eqb}
 use Rattle.layout.specs.Entries.{is_data}
@@ -20,4 +20,4 @@ pub returns : goal.returns
 unfolding is_data view_of
 returns c =
     let self = c.args.self in
-    rw (ne_eqb self.ds_type 77 c.if-self-eq77.false, ne_eqb self.ds_type 65 c.if-self-eq65.false) (sym (or_false (eqb self.ds_type 71)))
+    rw (ne_eqb self.ds_type 77 c.if-self-eq77.false, ne_eqb self.ds_type 65 c.if-self-eq65.false) (sym (or-false (eqb self.ds_type 71)))

@@ -32,7 +32,7 @@ returns-then-not-self c =
       positive (number_from self.size) is-negative2.result is-negative2.ensures c.if-is_negative-2.false,
       positive (number_from self.count) is-negative3.result is-negative3.ensures c.if-is_negative-3.false,
       from_minus_one (number_from self.record_size),
-      not-true self.record_size.minus c.if-not-self.true,
+      c.if-not-self.true,
     )
 
 pub returns : goal.returns
@@ -47,5 +47,5 @@ returns c =
       positive (number_from self.size) is-negative2.result is-negative2.ensures c.if-is_negative-2.false,
       positive (number_from self.count) is-negative3.result is-negative3.ensures c.if-is_negative-3.false,
       from_minus_one (number_from self.record_size),
-      not-false self.record_size.minus c.if-not-self.false,
+      c.if-not-self.false,
     )

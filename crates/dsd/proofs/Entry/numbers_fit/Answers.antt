@@ -13,22 +13,22 @@ returns-then-self-eq82 c = c.is_zero.ensures ∙ fits_reference (view_of c.args.
 
 pub returns-then-not-is_data : goal.returns-then-not-is_data
 unfolding view_of
-returns-then-not-is_data c = fits-spare (view_of c.args.self) c.if-self-eq82.false (sym c.is_data.ensures ∙ not-true c.is_data.result c.if-not-is_data.true)
+returns-then-not-is_data c = fits-spare (view_of c.args.self) c.if-self-eq82.false (sym c.is_data.ensures ∙ c.if-not-is_data.true)
 
 pub returns-then-not-is_in_range : goal.returns-then-not-is_in_range
 unfolding view_of
 returns-then-not-is_in_range c =
     let is-data = c.is_data in
-    fits_out (view_of c.args.self) c.if-self-eq82.false (sym is-data.ensures ∙ not-false is-data.result c.if-not-is_data.false)
-    (sym c.is_in_range.ensures ∙ not-true c.is_in_range.result c.if-not-is_in_range.true)
+    fits_out (view_of c.args.self) c.if-self-eq82.false (sym is-data.ensures ∙ c.if-not-is_data.false)
+    (sym c.is_in_range.ensures ∙ c.if-not-is_in_range.true)
 
 pub set_fits-requires : goal.set_fits-requires
-set_fits-requires c = sym c.is_in_range.ensures ∙ not-false c.is_in_range.result c.if-not-is_in_range.false
+set_fits-requires c = sym c.is_in_range.ensures ∙ c.if-not-is_in_range.false
 
 pub returns : goal.returns
 unfolding view_of
 returns c =
     let is-data = c.is_data in
     c.set_fits.ensures
-    ∙ fits-set (view_of c.args.self) c.if-self-eq82.false (sym is-data.ensures ∙ not-false is-data.result c.if-not-is_data.false)
-    (sym c.is_in_range.ensures ∙ not-false c.is_in_range.result c.if-not-is_in_range.false)
+    ∙ fits-set (view_of c.args.self) c.if-self-eq82.false (sym is-data.ensures ∙ c.if-not-is_data.false)
+    (sym c.is_in_range.ensures ∙ c.if-not-is_in_range.false)

@@ -4,7 +4,7 @@ use Prim.Native.Nat.{◌+◌, ◌*◌, ◌-◌, ◌≤◌}
 use mathlib.Core.Path.{◌≡◌, refl}
 use native.Mathlib.Omega.{arith}
 use lib.ListN.{length}
-use lib.Seq.{length_sets}
+use lib.Seq.{length-sets}
 use Rattle.vectors.proofs.printing.put_words.Goals as goal
 
 pub loop-i-init : goal.loop-i-init
@@ -26,7 +26,7 @@ pub loop-i-smaller : goal.loop-i-smaller
 loop-i-smaller c = omega arith
 
 pub loop-i-preserved : goal.loop-i-preserved
-loop-i-preserved c = (omega arith, (omega arith, (omega arith, rw (c.put_number-next.ensures.written, length_sets) c.loop-i.invariant.1.1.1)))
+loop-i-preserved c = (omega arith, (omega arith, (omega arith, rw (c.put_number-next.ensures.written, length-sets) c.loop-i.invariant.1.1.1)))
 
 pub shape_of-out : goal.shape_of-out
 shape_of-out c = c.loop-i.invariant.1.1.1
