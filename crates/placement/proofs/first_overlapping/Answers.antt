@@ -12,6 +12,7 @@ use Rattle.layout.proofs.Laws.{some_end}
 use Rattle.placement.specs.Sets.{overlaps_at, rule13_by}
 use Rattle.placement.proofs.Sets.{Lower, first_hit, first_miss, first-none, some_hit, some_miss, some-none, overlaps_lower, overlaps-none, overlapping, none-shares, one_more}
 use Rattle.placement.proofs.first_overlapping.Goals as goal
+use Rattle.placement.proofs.first_overlapping.Goals.{then-is_clear, else-is_clear}
 
 pub pairs-init : goal.pairs-init
 pairs-init c = (omega arith, refl, record { each = λ j l. absurd (omega arith) })
@@ -31,10 +32,10 @@ bounds-sizes-i c = omega arith
 pub loop-j-init : goal.loop-j-init
 loop-j-init c =
     let pairs = c.pairs in
-    ⊎_elim
-    (λ w. rw w.1 (omega arith, none-shares _ _ _ _ _ pairs.invariant.2 (c.is_clear.ensures w.0.taken) ∙ sym (some_end _ pairs.i)))
-    (λ w. rw w.1 (omega arith, rw (sub-zero pairs.i)))
-    c.if-is_clear.branch
+    elim c.if-is_clear.branch [
+      then-is_clear w ↦ rw w.j-is (omega arith, none-shares _ _ _ _ _ pairs.invariant.2 (c.is_clear.ensures w.if-is_clear.true) ∙ sym (some_end _ pairs.i))
+    | else-is_clear w ↦ rw w.j-is (omega arith, rw (sub-zero pairs.i))
+    ]
 
 pub offset_bounds-offsets-i-in-loop-j : goal.offset_bounds-offsets-i-in-loop-j
 offset_bounds-offsets-i-in-loop-j c = omega arith

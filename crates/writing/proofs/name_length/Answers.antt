@@ -23,7 +23,7 @@ bounds-names-start c = omega arith
 pub returns-then-names-start-ne32 : goal.returns-then-names-start-ne32
 returns-then-names-start-ne32 c =
     let turn = c.loop-kept in
-    (omega arith, turn.invariant.1 ∙ kept-all c.args.names.now c.args.start turn.auto (omega arith) (omega arith) c.if-names-start-ne32.true)
+    (omega arith, turn.invariant.1 ∙ kept-all c.args.names.now c.args.start turn.kept (omega arith) (omega arith) c.if-names-start-ne32.true)
 
 pub loop-kept-smaller : goal.loop-kept-smaller
 loop-kept-smaller c = omega arith
@@ -31,7 +31,7 @@ loop-kept-smaller c = omega arith
 pub loop-kept-preserved : goal.loop-kept-preserved
 loop-kept-preserved c =
     let turn = c.loop-kept in
-    (omega arith, turn.invariant.1 ∙ kept_less c.args.names.now c.args.start turn.auto (omega arith) (omega arith) c.if-names-start-ne32.false)
+    (omega arith, turn.invariant.1 ∙ kept_less c.args.names.now c.args.start turn.kept (omega arith) (omega arith) c.if-names-start-ne32.false)
 
 pub returns : goal.returns
-returns c = (omega arith, let e : c.loop-kept.auto ≡ 0 = omega arith in rw e at c.loop-kept.invariant.1 ∙ kept-none c.args.names.now c.args.start)
+returns c = (omega arith, let e : c.loop-kept.kept ≡ 0 = omega arith in rw e at c.loop-kept.invariant.1 ∙ kept-none c.args.names.now c.args.start)
