@@ -9,7 +9,7 @@ use Rattle.layout.specs.Fields.{in_limits}
 use Rattle.fields.proofs.check_limit.Goals as goal
 
 tested-here : (c : tie.After-in-limits) → (let entry = c.before.before.before in in_limits entry.args.most (signed_at entry.args.bytes.now entry.args.offset 4)) ≡ c.in-limits.result
-tested-here c = sym (c.in-limits.ensures ∙ ap (in_limits c.before.before.before.args.most) (to_z-of_z (sfits_of c.before.signed.type-inv) ∙ c.before.signed.ensures.0))
+tested-here c = sym (c.in-limits.ensures ∙ ap (in_limits c.before.before.before.args.most) (to_z-of_z (sfits_of c.before.signed.type_inv) ∙ c.before.signed.ensures.0))
 
 pub returns-then-in_limits : goal.returns-then-in_limits
 unfolding verdict_is

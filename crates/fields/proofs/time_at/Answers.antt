@@ -9,5 +9,5 @@ pub returns : goal.returns
 unfolding time_at
 returns c =
     let s = c.signed-days in
-    let d = to_z-of_z (overflow_cast-result c) ∙ to_z-of_z (sfits_of s.type-inv) ∙ s.ensures.0 in
+    let d = to_z-of_z (overflow_cast-result c) ∙ to_z-of_z (sfits_of s.type_inv) ∙ s.ensures.0 in
     λ j. record { days = d j; seconds = c.unsigned-seconds.ensures.0 j; microseconds = c.unsigned-microseconds.ensures.0 j }

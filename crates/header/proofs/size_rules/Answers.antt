@@ -44,7 +44,7 @@ returns c =
     let sph = sph_tested _ bytes _ c.number_at-sph_size.ensures _ _ c.sph_fits.ensures ∙ c.if-not-sph_fits.false in
     let dsds = dsds_tested _ bytes _ c.number_at-sph_size.ensures _ c.number_at-num_dsd.ensures _ c.dsds_fit.ensures ∙ c.if-not-dsds_fit.false in
     let size = c.whole_at in
-    let good = sizes-good _ _ sph dsds (sym size.ensures ∙ word_same size.result 280 size.type-inv (omega arith) c.if-whole_at.false) in
+    let good = sizes-good _ _ sph dsds (sym size.ensures ∙ word_same size.result 280 size.type_inv (omega arith) c.if-whole_at.false) in
     record {
       verdict-is = good;
       headers = λ h. headers-fit _ _ sph dsds _ (ap (λ (m : ℕ). 1247 + m) (ten-held _ bytes _ _ c.number_at-sph_size.ensures) ∙ sym (headers_end-at _)) (ten-held _ bytes _ _ c.number_at-num_dsd.ensures ∙ sym (entries_at _));

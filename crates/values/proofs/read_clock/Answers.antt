@@ -16,8 +16,8 @@ returns c =
     let step = c.whole_at-2 in
     λ j. record {
       utc_sbt_time = c.bytes27.ensures j;
-      sat_binary_time = (kept binary.type-inv ∙ binary.ensures) j;
-      clock_step = (kept step.type-inv ∙ step.ensures) j;
+      sat_binary_time = (kept binary.type_inv ∙ binary.ensures) j;
+      clock_step = (kept step.type_inv ∙ step.ensures) j;
       leap_utc = c.bytes27-2.ensures j;
       leap_sign = (kept c.whole_at-3.type_inv ∙ c.whole_at-3.ensures) j;
       leap_err = one_byte c.args.p.now 1009 j;

@@ -20,12 +20,12 @@ returns c =
     let dy = c.whole_at-6 in
     λ j. record {
       state_vector_time = c.bytes27.ensures j;
-      delta_ut1 = (kept delta.type-inv ∙ delta.ensures) j;
-      x_position = (kept x.type-inv ∙ x.ensures) j;
-      y_position = (kept y.type-inv ∙ y.ensures) j;
-      z_position = (kept z.type-inv ∙ z.ensures) j;
-      x_velocity = (kept dx.type-inv ∙ dx.ensures) j;
-      y_velocity = (kept dy.type-inv ∙ dy.ensures) j;
+      delta_ut1 = (kept delta.type_inv ∙ delta.ensures) j;
+      x_position = (kept x.type_inv ∙ x.ensures) j;
+      y_position = (kept y.type_inv ∙ y.ensures) j;
+      z_position = (kept z.type_inv ∙ z.ensures) j;
+      x_velocity = (kept dx.type_inv ∙ dx.ensures) j;
+      y_velocity = (kept dy.type_inv ∙ dy.ensures) j;
       z_velocity = (kept c.whole_at-7.type_inv ∙ c.whole_at-7.ensures) j;
       vector_source = c.bytes2.ensures j;
     }

@@ -22,9 +22,9 @@ returns c =
     let dsds = c.whole_at-3 in
     λ j. record {
       product_err = one_byte c.args.p.now 1064 j;
-      tot_size = (kept total.type-inv ∙ total.ensures) j;
-      sph_size = (kept sph.type-inv ∙ sph.ensures) j;
-      num_dsd = (kept dsds.type-inv ∙ dsds.ensures) j;
+      tot_size = (kept total.type_inv ∙ total.ensures) j;
+      sph_size = (kept sph.type_inv ∙ sph.ensures) j;
+      num_dsd = (kept dsds.type_inv ∙ dsds.ensures) j;
       dsd_size = (kept c.whole_at-4.type_inv ∙ c.whole_at-4.ensures) j;
       num_data_sets = (kept c.whole_at-5.type_inv ∙ c.whole_at-5.ensures) j;
     }

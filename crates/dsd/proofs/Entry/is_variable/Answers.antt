@@ -23,7 +23,7 @@ pub returns-then-not-self : goal.returns-then-not-self
 unfolding is_variable view_of number_from
 returns-then-not-self c =
     let self = c.args.self in
-    rw (is-minus-one (number_from self.record_size), c.if-not-self.true, and-false)
+    rw (is-minus-one (number_from self.record_size), not-true self.record_size.minus c.if-not-self.true, and-false)
 
 pub returns-then-self-ne1 : goal.returns-then-self-ne1
 unfolding is_variable view_of number_from
@@ -46,4 +46,4 @@ unfolding is_variable
 returns c =
     let self = c.args.self in
     rw (view_named self, lt-ltb 0 self.name_role (omega arith))
-    (all_pass self c.if-self.false c.if-self-eq0.false c.if-not-self.false c.if-self-ne1.false c.if-self-ne77.false)
+    (all_pass self c.if-self.false c.if-self-eq0.false (not-false self.record_size.minus c.if-not-self.false) c.if-self-ne1.false c.if-self-ne77.false)
