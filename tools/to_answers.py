@@ -25,6 +25,7 @@ class Turn:
         self.path = f"crates/{crate}/proofs/{folder}/Proof.antt"
         self.module = f"Rattle.{crate}.proofs." + folder.replace("/", ".")
         self.places = {p[0]: p for p in names["places"]}
+        self.arms = {p[0]: a for p, a in zip(names["places"], names["arms"]) if a}
         self.todo = []
         self.needs = {}
         for (old, new), (place, _) in zip(names["needs"], names["asked_at"]):
@@ -61,18 +62,30 @@ class Turn:
     def resolve(self, place, fields):
         """The new path of these fields behind a place; or a place alone. A step is found by its name, which no other has: how many steps there are
         between two differs between the kits."""
+        deep = 0
         while fields and fields[0] == "before":
-            fields = fields[1:]
+            fields, deep = fields[1:], deep + 1
         if not fields:
-            return ("place", place)
+            return ("place", place, deep)
         first, rest = norm(fields[0]), fields[1:]
         if first in ("args", "requires", "ranges"):
             return ("path", ".".join(["c", first] + rest))
         at = self.places.get(place)
         while at is not None:
+            found = self.in_arm(at[0], first, rest)
+            if found:
+                return found
             if norm(at[2][0]).lower() in (first.lower(), re.sub("_lem$", "", first)):
                 return ("path", ".".join(["c", at[2][1]] + self.fields(at, rest)))
             at = self.places.get(at[1])
+        return None
+
+    def in_arm(self, place, first, rest):
+        """What an arm of a `match` says goes by the pattern's names now."""
+        step, _, parts = self.arms.get(place, ("", 0, []))
+        for name, old, path in sorted(parts, key=lambda p: -len(p[2])):
+            if norm(old) == first and rest[: len(path)] == path:
+                return ("path", ".".join(["c", step, name] + rest[len(path) :]))
         return None
 
     def fields(self, at, rest):
@@ -91,7 +104,7 @@ class Turn:
 
     def turn_paths(self, body, place):
         """The body with each path from `c`, or from a name that `let` gives a record before, turned."""
-        alias = {"c": place}
+        alias, behind = {"c": place}, {"c": 0}
         out, i = "", 0
         binding = re.compile(r"let (%s) = (%s)((?:\.[\w'-]+)*) in\b" % (ID, ID))
         while i < len(body):
@@ -99,7 +112,7 @@ class Turn:
             if m and m[2] in alias and (m[3] or m[2] != "c"):
                 got = self.resolve(alias[m[2]], m[3].split(".")[1:])
                 if got and got[0] == "place":
-                    alias[m[1]] = got[1]
+                    alias[m[1]], behind[m[1]] = got[1], behind[m[2]] + got[2]
                     i = m.end()
                     while i < len(body) and body[i] == " ":
                         i += 1
@@ -113,7 +126,7 @@ class Turn:
                 if got and got[0] == "path":
                     out += got[1]
                 elif got:
-                    out += "c{-TODO place " + got[1] + "-}"
+                    out += "c" + ".before" * (behind[m[1]] + got[2])
                     self.say(f"a whole place {m[0]}")
                 else:
                     out += m[0]
@@ -124,7 +137,9 @@ class Turn:
             if m:
                 if m[0] in alias and m[0] != "c":
                     self.say(f"alias {m[0]} alone")
-                out += m[0]
+                    out += "c" + ".before" * behind[m[0]]
+                else:
+                    out += m[0]
                 i = m.end()
                 continue
             out += body[i]
@@ -209,7 +224,8 @@ class Turn:
                 answers.append("-- TODO\n" + body)
                 continue
             before, after = rest[: m.start()], rest[m.end() :]
-            if after.strip() == "search rules" and not before.strip():
+            is_cited = any(re.search(r"(?<![\w'.-])" + re.escape(name) + r"(?![\w'-])", "\n".join(others)) for other, others, _ in turned if other != name)
+            if after.strip() == "search rules" and not before.strip() and not is_cited:
                 continue
             if m[1] != "c" and m[1] != "_":
                 self.say(f"{name} binds {m[1]}")

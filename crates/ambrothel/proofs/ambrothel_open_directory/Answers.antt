@@ -29,23 +29,23 @@ pub returns-in-Refused : goal.returns-in-Refused
 unfolding verdict_is
 returns-in-Refused c =
     let judged = c.judge_opened-verdict in
-    rw (told-refused judged.result _ _ c.verdict-1.given.1 judged.ensures, ← c.none.ensures) c.put_whole_directory.ensures
+    rw (told-refused judged.result _ _ c.in-Refused.is judged.ensures, ← c.none.ensures) c.put_whole_directory.ensures
 
 pub rank_sets-requires : goal.rank_sets-requires
-rank_sets-requires c = ((held c{-TODO place After-ranks-}).few, refl)
+rank_sets-requires c = ((held c.before.before.before.before.before).few, refl)
 
 pub put_names-named-requires : goal.put_names-named-requires
 put_names-named-requires c =
-    let h = held accepted in
+    let h = held c.before.before.before.before.before.before.before.before.before.before.before.before.before.before.before.before.before.before in
     (h.inside, h.few, omega (arith, c.if-texts-lt11520.false))
 
 pub put_filenames-requires : goal.put_filenames-requires
 put_filenames-requires c =
-    let h = held accepted in
+    let h = held c.before.before.before.before.before.before.before.before.before.before.before.before.before.before.before.before.before.before.before.before.before.before in
     let named = c.put_names-named.ensures in
     (h.inside, h.few, omega (arith, named.next, named.narrow, same_room named, c.if-texts-lt11520.false))
 
 pub returns : goal.returns
 unfolding verdict_is
 returns c =
-    all_put _ _ _ (held accepted) c.rank_sets.ensures c.if-words-lt772.false c.if-texts-lt11520.false c.put_directory_numbers.ensures c.put_names-named.ensures c.put_filenames.ensures
+    all_put _ _ _ (held c.before.before.before.before.before.before.before.before.before.before.before.before.before.before.before.before.before.before.before.before.before.before.before.before.before) c.rank_sets.ensures c.if-words-lt772.false c.if-texts-lt11520.false c.put_directory_numbers.ensures c.put_names-named.ensures c.put_filenames.ensures

@@ -8,19 +8,19 @@ use Rattle.column.proofs.put_gathered.Goals as goal
 pub returns-in-Refused : goal.returns-in-Refused
 returns-in-Refused c =
     let g = c.gather-gathered in
-    gathered_refused _ _ _ _ _ _ _ _ g.ensures _ _ c.gathered-1.given.1
+    gathered_refused _ _ _ _ _ _ _ _ g.ensures _ _ c.in-Refused.is
 
 pub slice_bounds-put_values-length : goal.slice_bounds-put_values-length
 slice_bounds-put_values-length c =
     let g = c.gather-gathered in
-    sym (first-long _ _ _ _ _ _ _ _ g.ensures c.requires.2 c.enum_told-1.given.1)
+    sym (first-long _ _ _ _ _ _ _ _ g.ensures c.requires.2 c.in_default.is)
 
 pub put_values-requires : goal.put_values-requires
 put_values-requires c =
     let g = c.gather-gathered in
-    rw (first-long _ _ _ _ _ _ _ _ g.ensures c.requires.2 c.enum_told-1.given.1) c.requires.3
+    rw (first-long _ _ _ _ _ _ _ _ g.ensures c.requires.2 c.in_default.is) c.requires.3
 
 pub returns : goal.returns
 returns c =
     let g = c.gather-gathered in
-    values_put _ _ _ _ _ _ _ _ g.ensures c.requires.2 c.enum_told-1.given.1 _ _ c.requires.3 c.put_values.ensures
+    values_put _ _ _ _ _ _ _ _ g.ensures c.requires.2 c.in_default.is _ _ c.requires.3 c.put_values.ensures

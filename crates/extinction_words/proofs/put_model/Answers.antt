@@ -6,7 +6,7 @@ use borrow.Author.Rules.{rules}
 use Rattle.extinction_words.proofs.put_model.Goals as goal
 
 pub returns-in-Refused : goal.returns-in-Refused
-returns-in-Refused c = spelled (no_model c.args.answer _ c.enum_told-1.given.1) c.put_double.ensures
+returns-in-Refused c = spelled (no_model c.args.answer _ c.in-Refused.is) c.put_double.ensures
 
 pub returns-in-Is : goal.returns-in-Is
 returns-in-Is c =

@@ -23,6 +23,6 @@ overflow_cast-pixel c =
 pub returns : goal.returns
 returns c =
     let pixel = c.args.pixel in
-    let days = c.word_of.ensures ∙ ap word (to_z-of_z {w = w64} (overflow_cast-time c{-TODO place After-struct_known8-}) ∙ to_z-of_z {w = w32} (record { sfits = c.struct_told-1.given.0.1 })) in
-    let quality = c.word_of-2.ensures ∙ ap word (to_z-of_z {w = w64} (overflow_cast-pixel c{-TODO place After-struct_known8-}) ∙ to_z-of_z {w = w8} (record { sfits = c.struct_told-2-1.given.1.0.1 })) in
+    let days = c.word_of.ensures ∙ ap word (to_z-of_z {w = w64} (overflow_cast-time c.before.before.before.before.before.before.before.before.before.before) ∙ to_z-of_z {w = w32} (record { sfits = c.struct_told-1.given.0.1 })) in
+    let quality = c.word_of-2.ensures ∙ ap word (to_z-of_z {w = w64} (overflow_cast-pixel c.before.before.before.before.before) ∙ to_z-of_z {w = w8} (record { sfits = c.struct_told-2-1.given.1.0.1 })) in
     values_are pixel _ _ days quality

@@ -15,12 +15,12 @@ pub returns-then-v-limit : goal.returns-then-v-limit
 returns-then-v-limit c =
     let a = c.args in
     let v = to_z-of_z c.ranges.v in
-    let n = to_z-of_z (overflow_sub-limit c{-TODO place Then1-}) ∙ minus a.most (omega arith) in
+    let n = to_z-of_z (minus-fits a.most (omega arith)) ∙ minus a.most (omega arith) in
     too_low a.most a.v (sym (ap₂ lt_z v n) ∙ c.if-v-limit.true)
 
 pub returns : goal.returns
 returns c =
     let a = c.args in
     let v = to_z-of_z c.ranges.v in
-    let n = to_z-of_z (overflow_sub-limit c{-TODO place Else1-}) ∙ minus a.most (omega arith) in
+    let n = to_z-of_z (minus-fits a.most (omega arith)) ∙ minus a.most (omega arith) in
     ap₂ le_z v (to_z_pos w64 {n = a.most} (omega arith)) ∙ high_enough a.most a.v (sym (ap₂ lt_z v n) ∙ c.if-v-limit.false)

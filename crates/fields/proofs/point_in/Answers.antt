@@ -20,7 +20,7 @@ returns-in-Refused-check_end-2 c = search (past_altitude, accepts, refuses)
 -- `lat`, `lon`, `alt`, `north`, `east` below: where the checks of the three ends and of the two limits have come out well
 pub check_limit-requires : goal.check_limit-requires
 check_limit-requires c =
-    all_there _ _ _ _ c.check_end.ensures c.enum_told-1.given.1
+    all_there _ _ _ _ c.check_end.ensures c.in_default.is
 
 pub returns-in-Refused-check_limit : goal.returns-in-Refused-check_limit
 unfolding point_answer_is
@@ -28,7 +28,7 @@ returns-in-Refused-check_limit c = search (latitude-out, accepts, refuses)
 
 pub check_limit-requires-2 : goal.check_limit-requires-2
 check_limit-requires-2 c =
-    all_there _ _ _ _ c.check_end-2.ensures c.enum_told-in_default-check_end-1.given.1
+    all_there _ _ _ _ c.check_end-2.ensures c.in_default-check_end.is
 
 pub returns-in-Refused-check_limit-2 : goal.returns-in-Refused-check_limit-2
 unfolding point_answer_is
@@ -37,17 +37,17 @@ returns-in-Refused-check_limit-2 c = search (longitude-out, accepts, refuses)
 pub point_at-requires : goal.point_at-requires
 point_at-requires c =
     (
-      all_there _ _ _ _ c.check_end.ensures c.enum_told-1.given.1,
-      all_there _ _ _ _ c.check_end-2.ensures c.enum_told-in_default-check_end-1.given.1,
-      all_there _ _ _ _ c.check_end-3.ensures c.enum_told-in_default-check_end-2-1.given.1,
+      all_there _ _ _ _ c.check_end.ensures c.in_default.is,
+      all_there _ _ _ _ c.check_end-2.ensures c.in_default-check_end.is,
+      all_there _ _ _ _ c.check_end-3.ensures c.in_default-check_end-2.is,
     )
 
 pub returns : goal.returns
 returns c =
     c.point_at.ensures
     ∙ found _ _ _ _ _
-    (accepts _ _ c.check_end.ensures c.enum_told-1.given.1)
-    (accepts _ _ c.check_end-2.ensures c.enum_told-in_default-check_end-1.given.1)
-    (accepts _ _ c.check_end-3.ensures c.enum_told-in_default-check_end-2-1.given.1)
-    (accepts _ _ c.check_limit.ensures c.enum_told-in_default-check_limit-1.given.1)
-    (accepts _ _ c.check_limit-2.ensures c.enum_told-in_default-check_limit-2-1.given.1)
+    (accepts _ _ c.check_end.ensures c.in_default.is)
+    (accepts _ _ c.check_end-2.ensures c.in_default-check_end.is)
+    (accepts _ _ c.check_end-3.ensures c.in_default-check_end-2.is)
+    (accepts _ _ c.check_limit.ensures c.in_default-check_limit.is)
+    (accepts _ _ c.check_limit-2.ensures c.in_default-check_limit-2.is)

@@ -5,6 +5,9 @@ use mir.Facts.{to_z-of_z}
 use Rattle.layout.specs.Answers.{time_at}
 use Rattle.fields.proofs.time_at.Goals as goal
 
+pub overflow_cast-result : goal.overflow_cast-result
+overflow_cast-result c = search rules
+
 pub returns : goal.returns
 unfolding time_at
 returns c =

@@ -2,6 +2,7 @@
 use mathlib.Core.Path.{ap, ◌∙◌}
 use native.Mathlib.Omega.{arith}
 use borrow.Author.Rules.{sfits_of}
+use mir.Syntax.{w64}
 use mir.Facts.{to_z-of_z}
 use Rattle.layout.specs.Fields.{integer, time, bytes_of, value_at}
 use Rattle.layout.specs.Answers.{field_is, time_at}
@@ -12,54 +13,54 @@ use Rattle.fields.proofs.value_at.Goals as goal
 pub signed-requires : goal.signed-requires
 signed-requires c =
     let p = c.requires in
-    let k = signed-kind c.args.kind c.in-1.keys1 in
+    let k = signed-kind c.args.kind c.in-1.is in
     (omega (arith, p.1), omega (arith, p.0, k.1), omega (arith, p.2))
 
 pub unsigned_at-requires : goal.unsigned_at-requires
 unsigned_at-requires c =
     let p = c.requires in
-    let k = unsigned-kind c.args.kind c.in-2.keys2 in
+    let k = unsigned-kind c.args.kind c.in-2.is in
     (omega (arith, p.0, k.1), omega (arith, p.2))
 
 pub single_at-requires : goal.single_at-requires
 unfolding bytes_of
 single_at-requires c =
-    let w = c.requires.0 ∙ ap bytes_of (float-kind c.args.kind c.in-7.keys3) in
+    let w = c.requires.0 ∙ ap bytes_of (float-kind c.args.kind c.in-7.is) in
     omega (arith, c.requires.2)
 
 pub double_at-requires : goal.double_at-requires
 unfolding bytes_of
 double_at-requires c =
-    let w = c.requires.0 ∙ ap bytes_of (long_float-kind c.args.kind c.in-8.keys4) in
+    let w = c.requires.0 ∙ ap bytes_of (long_float-kind c.args.kind c.in-8.is) in
     omega (arith, c.requires.2)
 
 pub time_at-requires : goal.time_at-requires
 unfolding bytes_of
 time_at-requires c =
-    let n = c.in_default.rest in
+    let n = c.in_default.in_default-own.rest in
     let w = c.requires.0 ∙ ap bytes_of (time-kind c.args.kind (rw c.requires.0 at c.requires.1) n.0.0.0.1 n.0.0.1 n.0.1 n.1) in
     omega (arith, c.requires.2)
 
 pub returns-in-1 : goal.returns-in-1
 unfolding value_at field_is
 returns-in-1 c =
-    let k = signed-kind c.args.kind c.in-1.keys1 in
-    rw (k.0, ← c.requires.0) (ap integer (to_z-of_z (sfits_of c.signed.type_inv) ∙ c.signed.ensures.0))
+    let k = signed-kind c.args.kind c.in-1.is in
+    rw (k.0, ← c.requires.0) (ap integer (to_z-of_z {w = w64} (sfits_of c.signed.type_inv) ∙ c.signed.ensures.0))
 
 pub returns-in-2 : goal.returns-in-2
 unfolding value_at field_is
 returns-in-2 c =
-    let k = unsigned-kind c.args.kind c.in-2.keys2 in
-    rw (k.0, ← c.requires.0) (ap integer (to_z-of_z (sfits_of c.unsigned_at.type_inv) ∙ c.unsigned_at.ensures))
+    let k = unsigned-kind c.args.kind c.in-2.is in
+    rw (k.0, ← c.requires.0) (ap integer (to_z-of_z {w = w64} (sfits_of c.unsigned_at.type_inv) ∙ c.unsigned_at.ensures))
 
 pub returns-in-7 : goal.returns-in-7
-returns-in-7 c = rw (float-kind c.args.kind c.in-7.keys3) c.single_at.ensures
+returns-in-7 c = rw (float-kind c.args.kind c.in-7.is) c.single_at.ensures
 
 pub returns-in-8 : goal.returns-in-8
-returns-in-8 c = rw (long_float-kind c.args.kind c.in-8.keys4) c.double_at.ensures
+returns-in-8 c = rw (long_float-kind c.args.kind c.in-8.is) c.double_at.ensures
 
 pub returns-in_default : goal.returns-in_default
 unfolding value_at field_is time_at
 returns-in_default c =
-    let n = c.in_default.rest in
+    let n = c.in_default.in_default-own.rest in
     rw (time-kind c.args.kind (rw c.requires.0 at c.requires.1) n.0.0.0.1 n.0.0.1 n.0.1 n.1) (ap (λ (t : Time). time t.days t.seconds t.microseconds) c.time_at.ensures)

@@ -4,10 +4,6 @@ use borrow.Author.Rules.{rules}
 use Rattle.fields.proofs.Shapes.{widths, past}
 use Rattle.fields.proofs.width_of.Goals as goal
 
--- TODO
-array-read-result : tie.Need-array-read-result
-array-read-result c = search rules
-
 pub returns-then-kind-lt10 : goal.returns-then-kind-lt10
 returns-then-kind-lt10 c = widths c.args.kind
 

@@ -9,7 +9,7 @@ use Rattle.listing_text.proofs.write_listing.Goals as goal
 pub returns-in-Accepted : goal.returns-in-Accepted
 returns-in-Accepted c =
     let a = c.args in
-    from_start 32768 (spelled (listing-accepted a.verdict a.size a.directory c.enum_told-1.given.1) c.put_accepted.ensures) (omega arith) c.requires.0
+    from_start 32768 (spelled (listing-accepted a.verdict a.size a.directory c.in-Accepted.is) c.put_accepted.ensures) (omega arith) c.requires.0
 
 pub returns-in-Refused : goal.returns-in-Refused
 returns-in-Refused c =

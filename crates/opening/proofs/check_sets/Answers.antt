@@ -19,7 +19,7 @@ pub returns-in-Refused : goal.returns-in-Refused
 returns-in-Refused c =
     let args = c.args in
     let pre = c.requires in
-    numbers-refused args.p.now args.length args.front pre.0 args.reading _ _ pre.1 _ c.check_numbers-numbers.result c.enum_told-1.given.1 (c.check_numbers-numbers.ensures args.length)
+    numbers-refused args.p.now args.length args.front pre.0 args.reading _ _ pre.1 _ c.check_numbers-numbers.result c.in-Refused.is (c.check_numbers-numbers.ensures args.length)
 
 pub check_places-requires : goal.check_places-requires
 check_places-requires c = let pre = c.requires in pre.0.headers.most
@@ -29,4 +29,4 @@ returns c =
     let args = c.args in
     let pre = c.requires in
     let numbers = c.check_numbers-numbers in
-    places_last args.p.now args.length args.front pre.0 args.reading _ _ pre.1 numbers.result c.enum_told-in_default-1.given.1 (numbers.ensures args.length) _ c.check_places.ensures
+    places_last args.p.now args.length args.front pre.0 args.reading _ _ pre.1 numbers.result c.in_default.is (numbers.ensures args.length) _ c.check_places.ensures

@@ -12,20 +12,20 @@ pub returns-in-Refused : goal.returns-in-Refused
 unfolding verdict_is
 returns-in-Refused c =
     let judged = c.judge_product-verdict in
-    let r = told-refused judged.result _ _ c.verdict-1.given.1 judged.ensures in
+    let r = told-refused judged.result _ _ c.in-Refused.is judged.ensures in
     let b = c.args.p.now in
     (sym r, c.none.ensures ∙ ap (λ a. header_for a b) (sym r))
 
 pub at-requires : goal.at-requires
 at-requires c =
     let judged = c.judge_product-verdict in
-    let m = (sound _ (told-accepted judged.result _ c.enum_told-1.given.1 judged.ensures)).headed in
+    let m = (sound _ (told-accepted judged.result _ c.in_default.is judged.ensures)).headed in
     (m.main, m.total)
 
 pub returns : goal.returns
 unfolding verdict_is
 returns c =
     let judged = c.judge_product-verdict in
-    let a = told-accepted judged.result _ c.enum_told-1.given.1 judged.ensures in
+    let a = told-accepted judged.result _ c.in_default.is judged.ensures in
     let b = c.args.p.now in
     (sym a, c.at.ensures ∙ ap (λ x. header_for x b) (sym a))

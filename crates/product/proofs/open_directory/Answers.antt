@@ -15,7 +15,7 @@ pub returns-in-Refused : goal.returns-in-Refused
 unfolding verdict_is
 returns-in-Refused c =
     let judged = c.judge_opened-verdict in
-    let r = told-refused judged.result _ _ c.verdict-1.given.1 judged.ensures in
+    let r = told-refused judged.result _ _ c.in-Refused.is judged.ensures in
     let b = c.args.p.now in
     (sym r, c.none.ensures ∙ ap (λ a. directory_for a b) (sym r))
 
@@ -23,7 +23,7 @@ pub directory_from-requires : goal.directory_from-requires
 directory_from-requires c =
     let judged = c.judge_opened-verdict in
     let o = c.open_headers-opened.ensures in
-    let a = told-accepted judged.result _ c.enum_told-1.given.1 judged.ensures in
+    let a = told-accepted judged.result _ c.in_default.is judged.ensures in
     ((now_dsds _ _ o a).1, now_few _ _ o a)
 
 pub returns : goal.returns
@@ -31,6 +31,6 @@ unfolding verdict_is
 returns c =
     let judged = c.judge_opened-verdict in
     let o = c.open_headers-opened.ensures in
-    let a = told-accepted judged.result _ c.enum_told-1.given.1 judged.ensures in
+    let a = told-accepted judged.result _ c.in_default.is judged.ensures in
     let b = c.args.p.now in
     (sym a, c.directory_from.ensures ∙ now_directory b _ o a ∙ ap (λ x. directory_for x b) (sym a))

@@ -10,14 +10,14 @@ use Rattle.product.proofs.Calls.{in_product, record-within, reads_record, reads_
 use Rattle.product.proofs.point_at.Goals as goal
 
 pub part_at-requires : goal.part_at-requires
-part_at-requires c = in_product c.args.p.now _ _ c.record_place.ensures (record-within _ _ _) _ _ c.place-1.given.1
+part_at-requires c = in_product c.args.p.now _ _ c.record_place.ensures (record-within _ _ _) _ _ c.in-At.is
 
 pub returns-in-At : goal.returns-in-At
 unfolding point_reply
 returns-in-At c =
     let a = c.args in
-    c.point_in.ensures ∙ reads_record _ _ _ _ c.record_place.ensures (λ (l : List ℕ). point_in l a.entry a.latitude a.longitude a.altitude) _ _ c.place-1.given.1 c.part_at.ensures
+    c.point_in.ensures ∙ reads_record _ _ _ _ c.record_place.ensures (λ (l : List ℕ). point_in l a.entry a.latitude a.longitude a.altitude) _ _ c.in-At.is c.part_at.ensures
 
 pub returns-in-Refused : goal.returns-in-Refused
 unfolding point_answer_is point_reply
-returns-in-Refused c = reads_nothing _ _ _ _ c.record_place.ensures _ _ c.refusal-1.given.1
+returns-in-Refused c = reads_nothing _ _ _ _ c.record_place.ensures _ _ c.in-Refused.is

@@ -16,9 +16,9 @@ pub returns-in-Refused : goal.returns-in-Refused
 unfolding place_is record_place record_refusal
 returns-in-Refused c =
     let judged = c.judge_opened-verdict in
-    sym (rw (told-refused judged.result _ _ c.verdict-1.given.1 judged.ensures))
+    sym (rw (told-refused judged.result _ _ c.in-Refused.is judged.ensures))
 
 pub place_of_record-requires : goal.place_of_record-requires
 place_of_record-requires c =
     let judged = c.judge_opened-verdict in
-    now_open _ _ c.open_headers-opened.ensures (told-accepted judged.result _ c.enum_told-1.given.1 judged.ensures)
+    now_open _ _ c.open_headers-opened.ensures (told-accepted judged.result _ c.in_default.is judged.ensures)

@@ -18,17 +18,17 @@ pub returns-in-Refused : goal.returns-in-Refused
 unfolding place_is sph_place
 returns-in-Refused c =
     let judged = c.judge_opened-verdict in
-    sym (rw (told-refused judged.result _ _ c.verdict-1.given.1 judged.ensures))
+    sym (rw (told-refused judged.result _ _ c.in-Refused.is judged.ensures))
 
 pub overflow_sub-lines : goal.overflow_sub-lines
 overflow_sub-lines c =
     let judged = c.judge_opened-verdict in
-    let a = told-accepted judged.result _ c.enum_told-1.given.1 judged.ensures in
+    let a = told-accepted judged.result _ c.in_default.is judged.ensures in
     omega (arith, (now_dsds _ _ c.open_headers-opened.ensures a).0)
 
 pub returns : goal.returns
 unfolding place_is sph_place
 returns c =
     let judged = c.judge_opened-verdict in
-    let a = told-accepted judged.result _ c.enum_told-1.given.1 judged.ensures in
+    let a = told-accepted judged.result _ c.in_default.is judged.ensures in
     ap (λ (n : ℕ). is (record { place = 1247; length = n })) (lines_are _ _ c.open_headers-opened.ensures a) ∙ sym (rw a)

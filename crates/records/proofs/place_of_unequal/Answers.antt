@@ -22,13 +22,13 @@ bounds-offsets-entry c = omega (arith, entries-few _ _ c.requires.0)
 
 pub overflow_add-result : goal.overflow_add-result
 overflow_add-result c =
-    omega (arith, unequal_inside _ _ c.requires.0 _ c.requires.1 c.requires.2 _ c.states_span-span.ensures _ _ c.requires.3 _ _ (sym c.before-1.given.1 ∙ c.find_record.ensures))
+    omega (arith, unequal_inside _ _ c.requires.0 _ c.requires.1 c.requires.2 _ c.states_span-span.ensures _ _ c.requires.3 _ _ (sym c.in-At.is ∙ c.find_record.ensures))
 
 pub returns-in-At : goal.returns-in-At
 unfolding place_is
 returns-in-At c =
-    unequal_record _ _ c.requires.0 _ c.requires.1 c.requires.2 _ c.states_span-span.ensures _ _ c.requires.3 _ _ (sym c.before-1.given.1 ∙ c.find_record.ensures)
+    unequal_record _ _ c.requires.0 _ c.requires.1 c.requires.2 _ c.states_span-span.ensures _ _ c.requires.3 _ _ (sym c.in-At.is ∙ c.find_record.ensures)
 
 pub returns-in-Nothing : goal.returns-in-Nothing
 returns-in-Nothing c =
-    c.refuse.ensures ∙ no_unequal _ _ c.requires.0 _ c.requires.1 c.requires.2 _ c.states_span-span.ensures _ _ c.requires.3 (sym c.enum_told-1.given.1 ∙ c.find_record.ensures)
+    c.refuse.ensures ∙ no_unequal _ _ c.requires.0 _ c.requires.1 c.requires.2 _ c.states_span-span.ensures _ _ c.requires.3 (sym c.in-Nothing.is ∙ c.find_record.ensures)

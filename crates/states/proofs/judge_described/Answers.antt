@@ -15,49 +15,49 @@ there : (s : tie.Start) → s.args.i ≡ s.args.sets.entries → ⊥
 there s q = omega (arith, s.requires.1)
 
 pub offset_bounds-sizes-i : goal.offset_bounds-sizes-i
-offset_bounds-sizes-i c = omega (arith, most c{-TODO place After-offsets-unread-})
+offset_bounds-sizes-i c = omega (arith, most c.before.before.before.before.before)
 
 pub bounds-sizes-i : goal.bounds-sizes-i
-bounds-sizes-i c = omega (arith, most c{-TODO place After-offsets-unread-})
+bounds-sizes-i c = omega (arith, most c.before.before.before.before.before)
 
 pub offset_bounds-counts-i : goal.offset_bounds-counts-i
-offset_bounds-counts-i c = omega (arith, most c{-TODO place After-offsets-unread-2-})
+offset_bounds-counts-i c = omega (arith, most c.before.before.before.before.before)
 
 pub bounds-counts-i : goal.bounds-counts-i
-bounds-counts-i c = omega (arith, most c{-TODO place After-offsets-unread-2-})
+bounds-counts-i c = omega (arith, most c.before.before.before.before.before)
 
 pub offset_bounds-offsets-i : goal.offset_bounds-offsets-i
-offset_bounds-offsets-i c = omega (arith, most c{-TODO place After-offsets-unread-3-})
+offset_bounds-offsets-i c = omega (arith, most c.before.before.before.before.before)
 
 pub bounds-offsets-i : goal.bounds-offsets-i
-bounds-offsets-i c = omega (arith, most c{-TODO place After-offsets-unread-3-})
+bounds-offsets-i c = omega (arith, most c.before.before.before.before.before)
 
 pub judge_filled-requires : goal.judge_filled-requires
-judge_filled-requires c = most c{-TODO place Then1-}
+judge_filled-requires c = most c.before.before.before.before.before.before
 
 pub returns-then-size-eq0 : goal.returns-then-size-eq0
 returns-then-size-eq0 c = c.judge_filled.ensures ∙ by_empty _ _ _ c.if-size-eq0.true
 
 pub overflow_mul-count : goal.overflow_mul-count
 overflow_mul-count c =
-    omega (arith, count_fits _ _ _ c.requires.0.1.held c.requires.0.1.fits _ c.requires.2 (there s))
+    omega (arith, count_fits _ _ _ c.requires.0.1.held c.requires.0.1.fits _ c.requires.2 (there c.before.before.before.before.before.before))
 
 pub returns-then-size-count : goal.returns-then-size-count
 returns-then-size-count c = c.refuse.ensures ∙ by_size _ _ _ c.if-size-eq0.false c.if-size-count.true
 
 pub overflow_mul-bad : goal.overflow_mul-bad
 overflow_mul-bad c =
-    omega (arith, states-fit _ _ _ c.requires.0.1.held c.requires.0.1.fits _ c.requires.2 (there s) c.if-size-eq0.false c.if-size-count.false)
+    omega (arith, states-fit _ _ _ c.requires.0.1.held c.requires.0.1.fits _ c.requires.2 (there c.before.before.before.before.before.before.before.before) c.if-size-eq0.false c.if-size-count.false)
 
 pub overflow_add-place : goal.overflow_add-place
 overflow_add-place c =
-    omega (arith, states-fit _ _ _ c.requires.0.1.held c.requires.0.1.fits _ c.requires.2 (there s) c.if-size-eq0.false c.if-size-count.false)
+    omega (arith, states-fit _ _ _ c.requires.0.1.held c.requires.0.1.fits _ c.requires.2 (there c.before.before.before.before.before.before.before.before) c.if-size-eq0.false c.if-size-count.false)
 
 pub returns-then-bad-count : goal.returns-then-bad-count
 returns-then-bad-count c = c.refuse-then-bad-count.ensures ∙ by_bad _ _ _ c.if-size-eq0.false c.if-size-count.false c.if-bad-count.true
 
 pub judge_filled-requires-2 : goal.judge_filled-requires-2
-judge_filled-requires-2 c = most c{-TODO place Else3-}
+judge_filled-requires-2 c = most c.before.before.before.before.before.before.before.before
 
 pub returns : goal.returns
 returns c = c.judge_filled-2.ensures ∙ by_good _ _ _ c.if-size-eq0.false c.if-size-count.false c.if-bad-count.false

@@ -12,14 +12,14 @@ most : (s : tie.Start) → s.args.sets.entries ≤ 128
 most s = most-entries _ _ _ s.requires.1.held s.requires.1.fits
 
 pub has_variable-requires : goal.has_variable-requires
-has_variable-requires c = most c{-TODO place After-roles2-}
+has_variable-requires c = most c.before.before
 
 pub returns-then-not-has_variable : goal.returns-then-not-has_variable
 unfolding verdict_is
 returns-then-not-has_variable c = λ ds n held fits. sym (no_variable _ ds n held fits _ (sym c.has_variable.ensures ∙ c.if-not-has_variable.true))
 
 pub only_states-i-requires : goal.only_states-i-requires
-only_states-i-requires c = most c{-TODO place After-roles3-}
+only_states-i-requires c = most c.before.before.before.before.before
 
 pub returns-then-i-entries : goal.returns-then-i-entries
 returns-then-i-entries c =

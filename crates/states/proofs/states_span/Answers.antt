@@ -15,26 +15,26 @@ inside : (s : tie.Start) (i : ℕ) → i ≡ only_states s.args.sets.roles s.arg
 inside s i here there = (omega (arith, in_entries _ _ _ s.requires.1.held s.requires.1.fits i here there, most s), count_fits _ _ _ s.requires.1.held s.requires.1.fits i here there)
 
 pub only_states-i-requires : goal.only_states-i-requires
-only_states-i-requires c = most c{-TODO place After-roles2-}
+only_states-i-requires c = most c.before.before
 
 pub returns-then-i-entries : goal.returns-then-i-entries
 returns-then-i-entries c = λ ds n held fits. none_spanned _ ds n held fits _ c.only_states-i.ensures c.if-i-entries.true
 
 pub offset_bounds-sizes-i : goal.offset_bounds-sizes-i
 offset_bounds-sizes-i c =
-    omega (arith, inside c{-TODO place After-offsets-unread-} _ c.only_states-i.ensures c.if-i-entries.false)
+    omega (arith, inside c.before.before.before.before.before.before.before _ c.only_states-i.ensures c.if-i-entries.false)
 
 pub bounds-sizes-i : goal.bounds-sizes-i
 bounds-sizes-i c =
-    omega (arith, inside c{-TODO place After-offsets-unread-} _ c.only_states-i.ensures c.if-i-entries.false)
+    omega (arith, inside c.before.before.before.before.before.before.before _ c.only_states-i.ensures c.if-i-entries.false)
 
 pub offset_bounds-counts-i : goal.offset_bounds-counts-i
 offset_bounds-counts-i c =
-    omega (arith, inside c{-TODO place After-offsets-unread-2-} _ c.only_states-i.ensures c.if-i-entries.false)
+    omega (arith, inside c.before.before.before.before.before.before.before _ c.only_states-i.ensures c.if-i-entries.false)
 
 pub bounds-counts-i : goal.bounds-counts-i
 bounds-counts-i c =
-    omega (arith, inside c{-TODO place After-offsets-unread-2-} _ c.only_states-i.ensures c.if-i-entries.false)
+    omega (arith, inside c.before.before.before.before.before.before.before _ c.only_states-i.ensures c.if-i-entries.false)
 
 pub returns-then-size-eq0 : goal.returns-then-size-eq0
 returns-then-size-eq0 c =
@@ -42,7 +42,7 @@ returns-then-size-eq0 c =
 
 pub overflow_mul-count : goal.overflow_mul-count
 overflow_mul-count c =
-    omega (arith, inside c{-TODO place Else2-} _ c.only_states-i.ensures c.if-i-entries.false)
+    omega (arith, inside c.before.before.before.before.before.before.before.before _ c.only_states-i.ensures c.if-i-entries.false)
 
 pub returns-then-size-count : goal.returns-then-size-count
 returns-then-size-count c =
@@ -50,11 +50,11 @@ returns-then-size-count c =
 
 pub offset_bounds-offsets-i : goal.offset_bounds-offsets-i
 offset_bounds-offsets-i c =
-    omega (arith, inside c{-TODO place Else3-unread-} _ c.only_states-i.ensures c.if-i-entries.false)
+    omega (arith, inside c.before.before.before.before.before.before.before.before.before _ c.only_states-i.ensures c.if-i-entries.false)
 
 pub bounds-offsets-i : goal.bounds-offsets-i
 bounds-offsets-i c =
-    omega (arith, inside c{-TODO place Else3-unread-} _ c.only_states-i.ensures c.if-i-entries.false)
+    omega (arith, inside c.before.before.before.before.before.before.before.before.before _ c.only_states-i.ensures c.if-i-entries.false)
 
 pub returns : goal.returns
 returns c =

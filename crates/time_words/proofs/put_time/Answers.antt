@@ -13,7 +13,7 @@ use Rattle.time_words.proofs.put_time.Goals as goal
 
 pub overflow_cast-time : goal.overflow_cast-time
 overflow_cast-time c =
-    let days : SFits w32 c.answer-in-Is-1.given.0.0.days = record { sfits = c.struct_told-1.given.0.1 } in
+    let days : SFits w32 c.in-Is.time.days = record { sfits = c.struct_told-1.given.0.1 } in
     sfits_widen {w = w32} {w' = w64} tt (rw (to_z-of_z {w = w32} days) days)
 
 pub returns-in-Refused : goal.returns-in-Refused
@@ -22,11 +22,11 @@ returns-in-Refused c =
     spelled (refused_words c.args.answer known.0.0 known.1) (then c.put_refusal-next.ensures c.put_words.ensures)
 
 pub returns-in-NotGiven : goal.returns-in-NotGiven
-returns-in-NotGiven c = spelled (blank_words c.args.answer c.enum_told-1.given.1) c.put_words-in-NotGiven.ensures
+returns-in-NotGiven c = spelled (blank_words c.args.answer c.in-NotGiven.is) c.put_words-in-NotGiven.ensures
 
 pub returns-in-Is : goal.returns-in-Is
 returns-in-Is c =
     let known = c.answer-in-Is-1.given in
-    let days = c.word_of-days.ensures ∙ ap word (to_z-of_z {w = w64} (overflow_cast-time cast) ∙ to_z-of_z {w = w32} (record { sfits = c.struct_told-1.given.0.1 })) in
+    let days = c.word_of-days.ensures ∙ ap word (to_z-of_z {w = w64} (overflow_cast-time c.before.before.before.before.before.before.before.before) ∙ to_z-of_z {w = w32} (record { sfits = c.struct_told-1.given.0.1 })) in
     let put = c.put_words-in-Is.ensures in
-    spelled (given_words c.args.answer known.0.0 _ known.1 days) (at_most 7 put (omega (arith, put.narrow, slice-aggregate-put-words-3 c{-TODO place After-slice_known5-})))
+    spelled (given_words c.args.answer known.0.0 _ known.1 days) (at_most 7 put (omega (arith, put.narrow, slice-aggregate-put-words-3 c.before.before.before)))

@@ -16,8 +16,8 @@ pub returns-then-words-lt3 : goal.returns-then-words-lt3
 returns-then-words-lt3 c = first_short (rw verdict_three (omega arith))
 
 pub returns-then-text-lt27 : goal.returns-then-text-lt27
-returns-then-text-lt27 c = second_short (rw verdict_three (omega arith)) (rw (text-long c{-TODO place Then2-}) (omega arith))
+returns-then-text-lt27 c = second_short (rw verdict_three (omega arith)) (rw (text-long c.before.before.before.before) (omega arith))
 
 pub returns : goal.returns
 returns c =
-    both_written c.put_verdict.ensures c.put_text.ensures (rw verdict_three (omega arith)) (rw (text-long c{-TODO place After-slice_known4-}) (omega arith))
+    both_written c.put_verdict.ensures c.put_text.ensures (rw verdict_three (omega arith)) (rw (text-long c.before.before.before.before.before.before.before.before.before.before.before.before.before.before.before) (omega arith))

@@ -4,7 +4,7 @@ use borrow.Author.Rules.{rules}
 use Rattle.vectors.proofs.show_file.Goals as goal
 
 pub slice_bounds-input-end : goal.slice_bounds-input-end
-slice_bounds-input-end c = (rw c.arrived-1.given.1 at c.read_whole-arrived.ensures).0
+slice_bounds-input-end c = (rw c.in-Whole.is at c.read_whole-arrived.ensures).0
 
 pub slice_bounds-show_read-end : goal.slice_bounds-show_read-end
-slice_bounds-show_read-end c = (rw c.arrived-1.given.1 at c.read_whole-arrived.ensures).1
+slice_bounds-show_read-end c = (rw c.in-Whole.is at c.read_whole-arrived.ensures).1

@@ -6,7 +6,7 @@ use borrow.Author.Rules.{rules}
 use Rattle.words.proofs.put_doubles.Goals as goal
 
 pub returns-in-Refused : goal.returns-in-Refused
-returns-in-Refused c = spelled (no_point_doubles c.args.answer _ c.enum_told-1.given.1) c.put_three.ensures
+returns-in-Refused c = spelled (no_point_doubles c.args.answer _ c.in-Refused.is) c.put_three.ensures
 
 pub returns-in-At : goal.returns-in-At
 returns-in-At c =

@@ -18,4 +18,4 @@ pub returns-in-Is : goal.returns-in-Is
 returns-in-Is c =
     let known = c.answer-in-Is-1.given in
     let put = then c.put_words-next.ensures c.put_words-in-Is.ensures in
-    spelled (ap (λ (l : List ℕ). 0 ∷ 0 ∷ 0 ∷ l) c.value_words-words.ensures ∙ field-words c.args.answer known.0.0 known.1) (at_most 7 put (omega (arith, put.narrow, slice-aggregate-put-words-3 c{-TODO place After-slice_known5-})))
+    spelled (ap (λ (l : List ℕ). 0 ∷ 0 ∷ 0 ∷ l) c.value_words-words.ensures ∙ field-words c.args.answer known.0.0 known.1) (at_most 7 put (omega (arith, put.narrow, slice-aggregate-put-words-3 c.before.before.before)))

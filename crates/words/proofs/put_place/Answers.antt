@@ -6,7 +6,7 @@ use borrow.Author.Rules.{rules}
 use Rattle.words.proofs.put_place.Goals as goal
 
 pub returns-in-At : goal.returns-in-At
-returns-in-At c = spelled (place-words c.args.answer _ _ c.answer-1.given.1) c.put_words.ensures
+returns-in-At c = spelled (place-words c.args.answer _ _ c.in-At.is) c.put_words.ensures
 
 pub returns-in-Refused : goal.returns-in-Refused
 returns-in-Refused c =

@@ -11,4 +11,4 @@ returns-in-Refused c =
     spelled (no_point_words c.args.answer known.0.0 known.1) c.put_refusal.ensures
 
 pub returns-in-At : goal.returns-in-At
-returns-in-At c = spelled (point-words c.args.answer _ c.enum_told-1.given.1) c.put_words.ensures
+returns-in-At c = spelled (point-words c.args.answer _ c.in-At.is) c.put_words.ensures

@@ -6,7 +6,7 @@ use borrow.Author.Rules.{rules}
 use Rattle.words.proofs.put_verdict.Goals as goal
 
 pub returns-in-Accepted : goal.returns-in-Accepted
-returns-in-Accepted c = spelled (accepted_words c.args.verdict c.enum_told-1.given.1) c.put_words.ensures
+returns-in-Accepted c = spelled (accepted_words c.args.verdict c.in-Accepted.is) c.put_words.ensures
 
 pub returns-in-Refused : goal.returns-in-Refused
 returns-in-Refused c =

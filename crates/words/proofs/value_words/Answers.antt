@@ -11,19 +11,19 @@ use Rattle.words.proofs.value_words.Goals as goal
 
 pub overflow_cast-time : goal.overflow_cast-time
 overflow_cast-time c =
-    let days : SFits w32 c.field-in-Time-1.given.0.0.days = record { sfits = c.struct_told-1.given.0.1 } in
+    let days : SFits w32 c.in-Time.time.days = record { sfits = c.struct_told-1.given.0.1 } in
     sfits_widen {w = w32} {w' = w64} tt (rw (to_z-of_z {w = w32} days) days)
 
 pub returns-in-Whole : goal.returns-in-Whole
-returns-in-Whole c = whole_words c.args.field c.field-1.given.0.0 _ c.field-1.given.1 (c.word_of.ensures ∙ ap word (to_z-of_z {w = w64} (record { sfits = c.known_told-1.given.0.1 })))
+returns-in-Whole c = whole_words c.args.field c.in-Whole.number _ c.in-Whole.is (c.word_of.ensures ∙ ap word (to_z-of_z {w = w64} (record { sfits = c.in-Whole.known_told-1-own.given.0.1 })))
 
 pub returns-in-Single : goal.returns-in-Single
-returns-in-Single c = single_words c.args.field _ _ c.field-in-Single-1.given.1
+returns-in-Single c = single_words c.args.field _ _ c.in-Single.is
 
 pub returns-in-Double : goal.returns-in-Double
-returns-in-Double c = double_words c.args.field _ _ c.field-in-Double-1.given.1
+returns-in-Double c = double_words c.args.field _ _ c.in-Double.is
 
 pub returns-in-Time : goal.returns-in-Time
 returns-in-Time c =
     let known = c.field-in-Time-1.given in
-    time-words c.args.field known.0.0 _ known.1 (c.word_of-in-Time.ensures ∙ ap word (to_z-of_z {w = w64} (overflow_cast-time cast) ∙ to_z-of_z {w = w32} (record { sfits = c.struct_told-1.given.0.1 })))
+    time-words c.args.field known.0.0 _ known.1 (c.word_of-in-Time.ensures ∙ ap word (to_z-of_z {w = w64} (overflow_cast-time c.before.before.before) ∙ to_z-of_z {w = w32} (record { sfits = c.struct_told-1.given.0.1 })))

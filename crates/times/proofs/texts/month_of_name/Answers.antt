@@ -10,51 +10,51 @@ use Rattle.times.proofs.texts.month_of_name.Goals as goal
 
 pub returns-in-5128522 : goal.returns-in-5128522
 unfolding month_numbered is_numbered name_number month_name month_names byte_at find
-returns-in-5128522 c = sym (ap month_numbered c.in-5128522.keys1)
+returns-in-5128522 c = sym (ap month_numbered c.in-5128522.is)
 
 pub returns-in-4343110 : goal.returns-in-4343110
 unfolding month_numbered is_numbered name_number month_name month_names byte_at find
-returns-in-4343110 c = sym (ap month_numbered c.in-4343110.keys2)
+returns-in-4343110 c = sym (ap month_numbered c.in-4343110.is)
 
 pub returns-in-5390669 : goal.returns-in-5390669
 unfolding month_numbered is_numbered name_number month_name month_names byte_at find
-returns-in-5390669 c = sym (ap month_numbered c.in-5390669.keys3)
+returns-in-5390669 c = sym (ap month_numbered c.in-5390669.is)
 
 pub returns-in-5394497 : goal.returns-in-5394497
 unfolding month_numbered is_numbered name_number month_name month_names byte_at find
-returns-in-5394497 c = sym (ap month_numbered c.in-5394497.keys4)
+returns-in-5394497 c = sym (ap month_numbered c.in-5394497.is)
 
 pub returns-in-5849421 : goal.returns-in-5849421
 unfolding month_numbered is_numbered name_number month_name month_names byte_at find
-returns-in-5849421 c = sym (ap month_numbered c.in-5849421.keys5)
+returns-in-5849421 c = sym (ap month_numbered c.in-5849421.is)
 
 pub returns-in-5133642 : goal.returns-in-5133642
 unfolding month_numbered is_numbered name_number month_name month_names byte_at find
-returns-in-5133642 c = sym (ap month_numbered c.in-5133642.keys6)
+returns-in-5133642 c = sym (ap month_numbered c.in-5133642.is)
 
 pub returns-in-5002570 : goal.returns-in-5002570
 unfolding month_numbered is_numbered name_number month_name month_names byte_at find
-returns-in-5002570 c = sym (ap month_numbered c.in-5002570.keys7)
+returns-in-5002570 c = sym (ap month_numbered c.in-5002570.is)
 
 pub returns-in-4674881 : goal.returns-in-4674881
 unfolding month_numbered is_numbered name_number month_name month_names byte_at find
-returns-in-4674881 c = sym (ap month_numbered c.in-4674881.keys8)
+returns-in-4674881 c = sym (ap month_numbered c.in-4674881.is)
 
 pub returns-in-5260627 : goal.returns-in-5260627
 unfolding month_numbered is_numbered name_number month_name month_names byte_at find
-returns-in-5260627 c = sym (ap month_numbered c.in-5260627.keys9)
+returns-in-5260627 c = sym (ap month_numbered c.in-5260627.is)
 
 pub returns-in-5522255 : goal.returns-in-5522255
 unfolding month_numbered is_numbered name_number month_name month_names byte_at find
-returns-in-5522255 c = sym (ap month_numbered c.in-5522255.keys10)
+returns-in-5522255 c = sym (ap month_numbered c.in-5522255.is)
 
 pub returns-in-5656398 : goal.returns-in-5656398
 unfolding month_numbered is_numbered name_number month_name month_names byte_at find
-returns-in-5656398 c = sym (ap month_numbered c.in-5656398.keys11)
+returns-in-5656398 c = sym (ap month_numbered c.in-5656398.is)
 
 pub returns-in-4408644 : goal.returns-in-4408644
 unfolding month_numbered is_numbered name_number month_name month_names byte_at find
-returns-in-4408644 c = sym (ap month_numbered c.in-4408644.keys12)
+returns-in-4408644 c = sym (ap month_numbered c.in-4408644.is)
 
 pub returns-in_default : goal.returns-in_default
-returns-in_default c = no_number c.args.name (twelve c.args.name c.in_default.rest.0.0.0.0.0.0.0.0.0.0.0.1 c.in_default.rest.0.0.0.0.0.0.0.0.0.0.1 c.in_default.rest.0.0.0.0.0.0.0.0.0.1 c.in_default.rest.0.0.0.0.0.0.0.0.1 c.in_default.rest.0.0.0.0.0.0.0.1 c.in_default.rest.0.0.0.0.0.0.1 c.in_default.rest.0.0.0.0.0.1 c.in_default.rest.0.0.0.0.1 c.in_default.rest.0.0.0.1 c.in_default.rest.0.0.1 c.in_default.rest.0.1 c.in_default.rest.1)
+returns-in_default c = no_number c.args.name (twelve c.args.name c.in_default.in_default-own.rest.0.0.0.0.0.0.0.0.0.0.0.1 c.in_default.in_default-own.rest.0.0.0.0.0.0.0.0.0.0.1 c.in_default.in_default-own.rest.0.0.0.0.0.0.0.0.0.1 c.in_default.in_default-own.rest.0.0.0.0.0.0.0.0.1 c.in_default.in_default-own.rest.0.0.0.0.0.0.0.1 c.in_default.in_default-own.rest.0.0.0.0.0.0.1 c.in_default.in_default-own.rest.0.0.0.0.0.1 c.in_default.in_default-own.rest.0.0.0.0.1 c.in_default.in_default-own.rest.0.0.0.1 c.in_default.in_default-own.rest.0.0.1 c.in_default.in_default-own.rest.0.1 c.in_default.in_default-own.rest.1)

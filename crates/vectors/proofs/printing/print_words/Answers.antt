@@ -11,4 +11,4 @@ pub slice_bounds-out-end : goal.slice_bounds-out-end
 slice_bounds-out-end c = rw length-set (omega arith)
 
 pub slice_bounds-write_all-end : goal.slice_bounds-write_all-end
-slice_bounds-write_all-end c = sym (length-take-le c.put_words-ended.result _ (slice_bounds-out-end c{-TODO place After-out7-}))
+slice_bounds-write_all-end c = sym (length-take-le c.put_words-ended.result _ (slice_bounds-out-end c.before))

@@ -18,11 +18,11 @@ texts_long : (s : tie.Start) → length (directory_texts s.args.directory) ≡ 1
 texts_long s = let g = s.well-formed.1.0.1.1 in directory-texts s.args.directory (simp length-map at g.1.1.0.1.0.1) (simp length-map at g.1.1.1.0.1.0.1)
 
 pub returns-then-words-lt772 : goal.returns-then-words-lt772
-returns-then-words-lt772 c = first_short (rw (words_long c{-TODO place Then1-}) (omega arith))
+returns-then-words-lt772 c = first_short (rw (words_long c.before.before.before) (omega arith))
 
 pub returns-then-texts-lt11520 : goal.returns-then-texts-lt11520
-returns-then-texts-lt11520 c = second_short (rw (words_long c{-TODO place Then2-}) (omega arith)) (rw (texts_long c{-TODO place Then2-}) (omega arith))
+returns-then-texts-lt11520 c = second_short (rw (words_long c.before.before.before.before) (omega arith)) (rw (texts_long c.before.before.before.before) (omega arith))
 
 pub returns : goal.returns
 returns c =
-    both_written c.put_directory.ensures c.put_directory_texts.ensures (rw (words_long start) (omega (arith, c.if-words-lt772.false))) (rw (texts_long start) (omega (arith, c.if-texts-lt11520.false)))
+    both_written c.put_directory.ensures c.put_directory_texts.ensures (rw (words_long c.before.before.before.before.before.before.before.before.before.before.before.before) (omega (arith, c.if-words-lt772.false))) (rw (texts_long c.before.before.before.before.before.before.before.before.before.before.before.before) (omega (arith, c.if-texts-lt11520.false)))

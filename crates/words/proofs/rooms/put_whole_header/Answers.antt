@@ -18,11 +18,11 @@ texts_long : (s : tie.Start) → length (header_texts s.args.header) ≡ 289
 texts_long s = let g = s.well-formed.1.0.1.1 in header-texts s.args.header (simp length-map at g.0.1.1.0.1.0.1) (simp length-map at g.0.1.1.1.1.0.1.0.1) (simp length-map at g.0.1.1.1.1.1.0.1.0.1) (simp length-map at g.0.1.1.1.1.1.1.0.1.0.1) (simp length-map at g.0.1.1.1.1.1.1.1.0.1.0.1) (simp length-map at g.0.1.1.1.1.1.1.1.1.0.1.0.1) (simp length-map at g.1.0.1.1.0.1.0.1) (simp length-map at g.1.0.1.1.1.0.1.0.1) (simp length-map at g.1.1.0.1.1.0.1.0.1) (simp length-map at g.1.1.0.1.1.1.1.1.1.1.1.1.1.0.1.0.1) (simp length-map at g.1.1.1.0.1.1.0.1.0.1) (simp length-map at g.1.1.1.0.1.1.1.1.1.0.1.0.1)
 
 pub returns-then-words-lt25 : goal.returns-then-words-lt25
-returns-then-words-lt25 c = first_short (rw (words_long c{-TODO place Then1-}) (omega arith))
+returns-then-words-lt25 c = first_short (rw (words_long c.before.before.before) (omega arith))
 
 pub returns-then-texts-lt289 : goal.returns-then-texts-lt289
-returns-then-texts-lt289 c = second_short (rw (words_long c{-TODO place Then2-}) (omega arith)) (rw (texts_long c{-TODO place Then2-}) (omega arith))
+returns-then-texts-lt289 c = second_short (rw (words_long c.before.before.before.before) (omega arith)) (rw (texts_long c.before.before.before.before) (omega arith))
 
 pub returns : goal.returns
 returns c =
-    both_written c.put_header.ensures c.put_header_texts.ensures (rw (words_long start) (omega (arith, c.if-words-lt25.false))) (rw (texts_long start) (omega (arith, c.if-texts-lt289.false)))
+    both_written c.put_header.ensures c.put_header_texts.ensures (rw (words_long c.before.before.before.before.before.before.before.before.before.before.before.before) (omega (arith, c.if-words-lt25.false))) (rw (texts_long c.before.before.before.before.before.before.before.before.before.before.before.before) (omega (arith, c.if-texts-lt289.false)))
