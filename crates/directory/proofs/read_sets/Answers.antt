@@ -126,7 +126,7 @@ loop-i-preserved c =
       one-held (of_entry held_start 0 b from n) 0 l.offsets l.i _ few l.invariant.6 (ap (λ (h : HeldEntry). h.offset.magnitude) is),
       one-held (of_entry held_extent 0 b from n) 0 l.sizes l.i _ few l.invariant.7 (ap (λ (h : HeldEntry). h.size.magnitude) is),
       one-held (of_entry count_of 0 b from n) 0 l.counts l.i _ few l.invariant.8 (ap (λ (h : HeldEntry). h.count.magnitude) is),
-      one-held (of_entry record_size_of (pos 0) b from n) (pos 0) l.record-sizes l.i _ few l.invariant.9 (to_z-of_z {w = w64} (record { sfits = c.whole.type_inv }) ∙ c.whole.ensures ∙ ap (λ (h : HeldEntry). whole_in h.record_size) is),
+      one-held (of_entry record_size_of (pos 0) b from n) (pos 0) l.record_sizes l.i _ few l.invariant.9 (to_z-of_z {w = w64} (record { sfits = c.whole.type_inv }) ∙ c.whole.ensures ∙ ap (λ (h : HeldEntry). whole_in h.record_size) is),
       one-held (of_entry held_role 0 b from n) 0 l.roles l.i _ few l.invariant.10 (c.role.ensures ∙ ap (λ (h : HeldEntry). role_of (view_of h)) is),
     )
 
@@ -140,7 +140,7 @@ returns c =
     let n = args.n in
     let ds = entries_from b from n in
     let e : l.i ≡ n = omega arith in
-    let all : l.i ≡ length ds = e ∙ sym (length-entries b from n) in (
-      record { nine = l.invariant.1 ∙ ap (find (over_at ds) 0) all; ten = l.invariant.2 ∙ ap (find (unfit_at ds) 0) all; eleven = l.invariant.4 ∙ ap (count (non_empty_at ds) 0) all },
-      all_read b from n (all_held type_of 0 b from n l.i e l.invariant.5) (all_held held_start 0 b from n l.i e l.invariant.6) (all_held held_extent 0 b from n l.i e l.invariant.7) (all_held count_of 0 b from n l.i e l.invariant.8) (all_held record_size_of (pos 0) b from n l.i e l.invariant.9) (all_held held_role 0 b from n l.i e l.invariant.10),
-    )
+    let all : l.i ≡ length ds = e ∙ sym (length-entries b from n) in record {
+      counted = record { nine = l.invariant.1 ∙ ap (find (over_at ds) 0) all; ten = l.invariant.2 ∙ ap (find (unfit_at ds) 0) all; eleven = l.invariant.4 ∙ ap (count (non_empty_at ds) 0) all };
+      held = all_read b from n (all_held type_of 0 b from n l.i e l.invariant.5) (all_held held_start 0 b from n l.i e l.invariant.6) (all_held held_extent 0 b from n l.i e l.invariant.7) (all_held count_of 0 b from n l.i e l.invariant.8) (all_held record_size_of (pos 0) b from n l.i e l.invariant.9) (all_held held_role 0 b from n l.i e l.invariant.10);
+    }
