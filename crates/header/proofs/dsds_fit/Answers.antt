@@ -11,7 +11,7 @@ pub returns-then-not-is_within : goal.returns-then-not-is_within
 returns-then-not-is_within c = rw (sym c.is_within.ensures ∙ c.if-not-is_within.true)
 
 pub overflow_mul-result : goal.overflow_mul-result
-overflow_mul-result c = record { fits = omega (arith, held-most c.args.num-dsd 128 (sym c.is_within.ensures ∙ c.if-not-is_within.false)) }
+overflow_mul-result c = record { fits = omega (arith, held-most c.args.num_dsd 128 (sym c.is_within.ensures ∙ c.if-not-is_within.false)) }
 
 pub returns : goal.returns
 returns c = rw (sym c.is_within.ensures ∙ c.if-not-is_within.false)

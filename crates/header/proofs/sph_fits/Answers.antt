@@ -11,7 +11,7 @@ pub returns-then-not-is_within : goal.returns-then-not-is_within
 returns-then-not-is_within c = rw (sym c.is_within.ensures ∙ c.if-not-is_within.true)
 
 pub overflow_add-result : goal.overflow_add-result
-overflow_add-result c = record { fits = omega (arith, held-most c.args.sph-size 49152 (sym c.is_within.ensures ∙ c.if-not-is_within.false)) }
+overflow_add-result c = record { fits = omega (arith, held-most c.args.sph_size 49152 (sym c.is_within.ensures ∙ c.if-not-is_within.false)) }
 
 pub returns : goal.returns
 returns c = rw (sym c.is_within.ensures ∙ c.if-not-is_within.false)

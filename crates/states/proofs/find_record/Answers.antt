@@ -28,7 +28,7 @@ adds_to-n-requires c = tt
 
 pub overflow_mul-left : goal.overflow_mul-left
 overflow_mul-left c =
-    let q = bytes_small c.loop-i.false c.at-state.result.record_length (omega (arith, c.adds_to-n.ensures.1)) (search rules) in
+    let q = bytes_small c.loop-i.left c.at-state.result.record_length (omega (arith, c.adds_to-n.ensures.1)) (search rules) in
     omega arith
 
 pub plus-requires : goal.plus-requires

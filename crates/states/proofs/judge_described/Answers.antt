@@ -8,56 +8,50 @@ use Rattle.states.proofs.Fits.{most-entries, count_fits, states-fit}
 use borrow.Author.Rules.{rules}
 use Rattle.states.proofs.judge_described.Goals as goal
 
-most : (s : tie.Start) → s.args.sets.entries ≤ 128
-most s = most-entries _ _ _ s.requires.0.1.held s.requires.0.1.fits
-
-there : (s : tie.Start) → s.args.i ≡ s.args.sets.entries → ⊥
-there s q = omega (arith, s.requires.1)
-
 pub offset_bounds-sizes-i : goal.offset_bounds-sizes-i
-offset_bounds-sizes-i c = omega (arith, most c.before.before.before.before.before)
+offset_bounds-sizes-i c = omega (arith, most-entries _ _ _ c.requires.0.1.held c.requires.0.1.fits)
 
 pub bounds-sizes-i : goal.bounds-sizes-i
-bounds-sizes-i c = omega (arith, most c.before.before.before.before.before)
+bounds-sizes-i c = omega (arith, most-entries _ _ _ c.requires.0.1.held c.requires.0.1.fits)
 
 pub offset_bounds-counts-i : goal.offset_bounds-counts-i
-offset_bounds-counts-i c = omega (arith, most c.before.before.before.before.before)
+offset_bounds-counts-i c = omega (arith, most-entries _ _ _ c.requires.0.1.held c.requires.0.1.fits)
 
 pub bounds-counts-i : goal.bounds-counts-i
-bounds-counts-i c = omega (arith, most c.before.before.before.before.before)
+bounds-counts-i c = omega (arith, most-entries _ _ _ c.requires.0.1.held c.requires.0.1.fits)
 
 pub offset_bounds-offsets-i : goal.offset_bounds-offsets-i
-offset_bounds-offsets-i c = omega (arith, most c.before.before.before.before.before)
+offset_bounds-offsets-i c = omega (arith, most-entries _ _ _ c.requires.0.1.held c.requires.0.1.fits)
 
 pub bounds-offsets-i : goal.bounds-offsets-i
-bounds-offsets-i c = omega (arith, most c.before.before.before.before.before)
+bounds-offsets-i c = omega (arith, most-entries _ _ _ c.requires.0.1.held c.requires.0.1.fits)
 
 pub judge_filled-requires : goal.judge_filled-requires
-judge_filled-requires c = most c.before.before.before.before.before.before
+judge_filled-requires c = most-entries _ _ _ c.requires.0.1.held c.requires.0.1.fits
 
 pub returns-then-size-eq0 : goal.returns-then-size-eq0
 returns-then-size-eq0 c = c.judge_filled.ensures ∙ by_empty _ _ _ c.if-size-eq0.true
 
 pub overflow_mul-count : goal.overflow_mul-count
 overflow_mul-count c =
-    omega (arith, count_fits _ _ _ c.requires.0.1.held c.requires.0.1.fits _ c.requires.2 (there c.before.before.before.before.before.before))
+    omega (arith, count_fits _ _ _ c.requires.0.1.held c.requires.0.1.fits _ c.requires.2 (λ q. omega (arith, c.requires.1)))
 
 pub returns-then-size-count : goal.returns-then-size-count
 returns-then-size-count c = c.refuse.ensures ∙ by_size _ _ _ c.if-size-eq0.false c.if-size-count.true
 
 pub overflow_mul-bad : goal.overflow_mul-bad
 overflow_mul-bad c =
-    omega (arith, states-fit _ _ _ c.requires.0.1.held c.requires.0.1.fits _ c.requires.2 (there c.before.before.before.before.before.before.before.before) c.if-size-eq0.false c.if-size-count.false)
+    omega (arith, states-fit _ _ _ c.requires.0.1.held c.requires.0.1.fits _ c.requires.2 (λ q. omega (arith, c.requires.1)) c.if-size-eq0.false c.if-size-count.false)
 
 pub overflow_add-place : goal.overflow_add-place
 overflow_add-place c =
-    omega (arith, states-fit _ _ _ c.requires.0.1.held c.requires.0.1.fits _ c.requires.2 (there c.before.before.before.before.before.before.before.before) c.if-size-eq0.false c.if-size-count.false)
+    omega (arith, states-fit _ _ _ c.requires.0.1.held c.requires.0.1.fits _ c.requires.2 (λ q. omega (arith, c.requires.1)) c.if-size-eq0.false c.if-size-count.false)
 
 pub returns-then-bad-count : goal.returns-then-bad-count
 returns-then-bad-count c = c.refuse-then-bad-count.ensures ∙ by_bad _ _ _ c.if-size-eq0.false c.if-size-count.false c.if-bad-count.true
 
 pub judge_filled-requires-2 : goal.judge_filled-requires-2
-judge_filled-requires-2 c = most c.before.before.before.before.before.before.before.before
+judge_filled-requires-2 c = most-entries _ _ _ c.requires.0.1.held c.requires.0.1.fits
 
 pub returns : goal.returns
 returns c = c.judge_filled-2.ensures ∙ by_good _ _ _ c.if-size-eq0.false c.if-size-count.false c.if-bad-count.false

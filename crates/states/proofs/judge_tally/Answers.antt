@@ -8,18 +8,15 @@ use Rattle.states.proofs.Fits.{most-entries, no_variable, in_entries, none_descr
 use borrow.Author.Rules.{rules}
 use Rattle.states.proofs.judge_tally.Goals as goal
 
-most : (s : tie.Start) → s.args.sets.entries ≤ 128
-most s = most-entries _ _ _ s.requires.1.held s.requires.1.fits
-
 pub has_variable-requires : goal.has_variable-requires
-has_variable-requires c = most c.before.before
+has_variable-requires c = most-entries _ _ _ c.requires.1.held c.requires.1.fits
 
 pub returns-then-not-has_variable : goal.returns-then-not-has_variable
 unfolding verdict_is
 returns-then-not-has_variable c = λ ds n held fits. sym (no_variable _ ds n held fits _ (sym c.has_variable.ensures ∙ c.if-not-has_variable.true))
 
 pub only_states-i-requires : goal.only_states-i-requires
-only_states-i-requires c = most c.before.before.before.before.before
+only_states-i-requires c = most-entries _ _ _ c.requires.1.held c.requires.1.fits
 
 pub returns-then-i-entries : goal.returns-then-i-entries
 returns-then-i-entries c =
