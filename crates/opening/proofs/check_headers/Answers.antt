@@ -28,7 +28,7 @@ check_sets-verdict-requires c =
     let front = c.check_front-front in
     let good = c.in_default.is in
     let read = c.read_sets-reading in
-    (fronted args.p.now args.length front.result front.ensures good, sets_read args.p.now args.length front.result front.ensures good read.result read.ensures.0 _ read.ensures.1)
+    (fronted args.p.now args.length front.result front.ensures good, sets_read args.p.now args.length front.result front.ensures good read.result read.ensures.counted _ read.ensures.held)
 
 pub returns : goal.returns
 returns c =
@@ -36,4 +36,4 @@ returns c =
     let front = c.check_front-front in
     let good = c.in_default.is in
     let read = c.read_sets-reading in
-    sets_checked args.p.now args.length front.result front.ensures good read.result read.ensures.0 _ read.ensures.1 _ c.check_sets-verdict.ensures
+    sets_checked args.p.now args.length front.result front.ensures good read.result read.ensures.counted _ read.ensures.held _ c.check_sets-verdict.ensures
