@@ -8,7 +8,7 @@ use mathlib.Core.Path.{◌≡◌, refl, sym, ap, ◌∙◌}
 use native.Mathlib.Omega.{arith}
 use lib.Dec.{T, leb, eqb, eqb→eq, eqb_refl}
 use lib.ListN.{get_or}
-use Rattle.layout.specs.Bytes.{bytes, byte_at}
+use Rattle.layout.specs.Bytes.{byte_at}
 use Rattle.layout.specs.Answer.{need, accepted}
 use Rattle.layout.specs.Search.{first, find}
 use Rattle.layout.proofs.Laws.{and_T, leb-T, lt-or-le, find_bounds, find_at, find_same}

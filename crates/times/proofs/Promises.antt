@@ -16,7 +16,7 @@ use Rattle.layout.proofs.Tests.{is_true}
 use Rattle.times.specs.declared.TimeAnswer.{TimeAnswer}
 use Rattle.times.specs.declared.TimeAnswer.TheVariants as answers
 use Rattle.times.specs.declared.TimeText.{TimeText}
-use Rattle.times.specs.Times.{time_of, text_of, same_bytes, moment_in, valid_text, blank_text, Said, not_given, given, time_of_text, time_answer_is, valid_time, TextIs, TextAnswer}
+use Rattle.times.specs.Times.{time_of, text_of, same_bytes, moment_in, valid_text, blank_text, not_given, given, time_of_text, time_answer_is, valid_time, TextIs, TextAnswer}
 use Rattle.times.specs.Order.{time_order, moment_order}
 use Rattle.times.proofs.Months.{same_is, is_same}
 use Rattle.times.proofs.Numbers.{timed}

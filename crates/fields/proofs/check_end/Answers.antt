@@ -2,7 +2,6 @@
 use mathlib.Core.Path.{sym, ◌∙◌}
 use Rattle.layout.specs.Fields.{ends_in}
 use Rattle.layout.specs.Answers.{verdict_is}
-use borrow.Author.Rules.{rules}
 use Rattle.fields.proofs.check_end.Goals as goal
 
 pub returns-then-ends_in : goal.returns-then-ends_in

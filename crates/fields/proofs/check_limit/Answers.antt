@@ -4,7 +4,8 @@ use Prim.Native.Nat.{ℕ}
 use mathlib.Core.Bool.{Bool}
 use lib.IntN.{ℤ}
 use Rattle.layout.specs.Answers.{verdict_is}
-use borrow.Author.Rules.{rules, sfits_of}
+use borrow.Author.Rules.{sfits_of}
+use mir.Syntax.{w64}
 use mir.Facts.{to_z-of_z}
 use Rattle.layout.specs.Bytes.{signed_at}
 use Rattle.layout.specs.Fields.{in_limits}
@@ -16,7 +17,6 @@ tested_here v most h e = sym (h ∙ ap (in_limits most) e)
 
 pub returns-then-in_limits : goal.returns-then-in_limits
 unfolding verdict_is
-returns-then-in_limits c = sym (rw (tested_here _ c.args.most c.in_limits.ensures (to_z-of_z (sfits_of c.signed.type_inv) ∙ c.signed.ensures.0) ∙ c.if-in_limits.true))
-
-pub returns : goal.returns
-returns c = c.refuse.ensures ∙ sym (rw (tested_here _ c.args.most c.in_limits.ensures (to_z-of_z (sfits_of c.signed.type_inv) ∙ c.signed.ensures.0) ∙ c.if-in_limits.false))
+returns-then-in_limits c =
+    let h : in_limits c.args.most (signed_at c.args.bytes.now c.args.offset 4) ≡ c.in_limits.result = tested_here _ _ c.in_limits.ensures (to_z-of_z {w = w64} (sfits_of c.signed.type_inv) ∙ c.signed.ensures.0) in
+    sym (rw (h ∙ c.if-in_limits.true))

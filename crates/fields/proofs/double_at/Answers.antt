@@ -1,6 +1,5 @@
 -- `fields::double_at` meets its contract. Assumes nothing.
 use mathlib.Core.Path.{ap, ap₂, ◌∙◌}
-use borrow.Author.Rules.{rules}
 use lib.Ieee.{binary64, of_bits}
 use Rattle.layout.specs.Fields.{double, value_at}
 use Rattle.layout.specs.Answers.{field_is}

@@ -1,8 +1,7 @@
 -- `fields::field_in` meets its contract: the widths tell the kinds, and the refusals go in their order. Assumes nothing.
 use mathlib.Core.Path.{sym, ap, ◌∙◌}
 use native.Mathlib.Omega.{arith}
-use borrow.Author.Rules.{rules}
-use borrow.Author.Tests.{leb-true, not-true, not-false}
+use borrow.Author.Tests.{leb-true}
 use Rattle.layout.specs.Answer.{is}
 use Rattle.layout.specs.Answers.{field_answer_is}
 use Rattle.fields.proofs.Shapes.{no_kind, no_room, all_there}

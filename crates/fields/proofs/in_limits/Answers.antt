@@ -1,7 +1,6 @@
 -- `fields::in_limits` meets its contract. Assumes nothing.
 use mathlib.Core.Path.{sym, ap₂, ◌∙◌}
 use native.Mathlib.Omega.{arith}
-use borrow.Author.Rules.{rules}
 use lib.Signed.{le_z, lt_z}
 use mir.Syntax.{w64}
 use mir.Facts.{to_z-of_z, to_z_pos}

@@ -2,7 +2,6 @@
 use mathlib.Core.Path.{◌∙◌}
 use Rattle.layout.specs.Answers.{point_answer_is}
 use Rattle.fields.proofs.Points.{accepts, refuses, all_there, past_latitude, past_longitude, past_altitude, latitude-out, longitude-out, found}
-use borrow.Author.Rules.{rules}
 use Rattle.fields.proofs.point_in.Goals as goal
 
 pub returns-in-Refused : goal.returns-in-Refused
@@ -35,12 +34,11 @@ unfolding point_answer_is
 returns-in-Refused-check_limit-2 c = search (longitude-out, accepts, refuses)
 
 pub point_at-requires : goal.point_at-requires
-point_at-requires c =
-    (
-      all_there _ _ _ _ c.check_end.ensures c.in_default.is,
-      all_there _ _ _ _ c.check_end-2.ensures c.in_default-check_end.is,
-      all_there _ _ _ _ c.check_end-3.ensures c.in_default-check_end-2.is,
-    )
+point_at-requires c = (
+  all_there _ _ _ _ c.check_end.ensures c.in_default.is,
+  all_there _ _ _ _ c.check_end-2.ensures c.in_default-check_end.is,
+  all_there _ _ _ _ c.check_end-3.ensures c.in_default-check_end-2.is,
+)
 
 pub returns : goal.returns
 returns c =

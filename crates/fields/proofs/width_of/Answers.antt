@@ -1,6 +1,5 @@
 -- `fields::width_of` meets its contract: its table is the widths of the shapes. Assumes nothing.
 use mathlib.Core.Path.{sym}
-use borrow.Author.Rules.{rules}
 use Rattle.fields.proofs.Shapes.{widths, past}
 use Rattle.fields.proofs.width_of.Goals as goal
 

@@ -1,7 +1,6 @@
 -- `times::is_moment` meets its contract.
 -- Assumes nothing.
 use mathlib.Core.Path.{refl}
-use borrow.Author.Rules.{rules}
 use Rattle.times.specs.Times.{valid_moment}
 use Rattle.times.proofs.is_moment.Goals as goal
 

@@ -1,6 +1,5 @@
 -- `times::moment_of` meets its contract.
 -- Assumes nothing.
-use borrow.Author.Rules.{rules}
 use Rattle.times.proofs.Numbers.{timed, sum_fits, sum_casts, sum_short, day_is}
 use Rattle.times.proofs.Moments.{found_valid, found-time}
 use Rattle.times.proofs.moment_of.Goals as goal

@@ -1,8 +1,6 @@
 -- `times::text_of_time` meets its contract.
 -- Assumes nothing.
 use mathlib.Core.Path.{sym, ap, ◌∙◌}
-use borrow.Author.Tests.{not-true, not-false}
-use borrow.Author.Rules.{rules}
 use Rattle.times.specs.Times.{valid_time}
 use Rattle.times.proofs.Said.{told}
 use Rattle.times.proofs.Answers.{time-kept, refused-text, given-text}

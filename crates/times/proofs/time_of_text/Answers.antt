@@ -1,8 +1,6 @@
 -- `times::time_of_text` meets its contract.
 -- Assumes nothing.
 use mathlib.Core.Path.{sym, ap, ◌∙◌}
-use borrow.Author.Tests.{not-true, not-false}
-use borrow.Author.Rules.{rules}
 use Rattle.times.specs.Times.{valid_moment, time_answer_is}
 use Rattle.times.proofs.Said.{told, said_length, said_blank, said_unformed, said_invalid, said_time}
 use Rattle.times.proofs.time_of_text.Goals as goal

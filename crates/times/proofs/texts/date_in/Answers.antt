@@ -1,7 +1,6 @@
 -- `times::texts::date_in` meets its contract.
 -- Assumes nothing.
 use native.Mathlib.Omega.{arith}
-use borrow.Author.Rules.{rules}
 use Rattle.times.proofs.Written.{form}
 use Rattle.times.proofs.Reading.{two_of, date-read}
 use Rattle.times.proofs.texts.date_in.Goals as goal

@@ -1,13 +1,8 @@
 -- `times::texts::is_formed` meets its contract: what the bytes so far are short of, put together.
 -- Assumes nothing.
-use Prim.Native.Nat.{◌-◌, ◌≤◌}
-use mathlib.Core.Bool.{not}
-use mathlib.Core.Path.{◌≡◌}
 use native.Mathlib.Omega.{arith}
-use lib.Dec.{eqb}
 use Rattle.layout.specs.Bytes.{part, byte_at}
-use Rattle.layout.specs.Search.{some}
-use Rattle.times.specs.Formed.{lowest, highest, misplaced, formed}
+use Rattle.times.specs.Formed.{lowest, highest, formed}
 use Rattle.times.proofs.Blocks.{none_short, both_short, all_short}
 use Rattle.times.proofs.texts.is_formed.Goals as goal
 

@@ -1,12 +1,9 @@
 use Prim.Native.Nat.{◌-◌, ◌≤◌}
 use mathlib.Core.Bool.{not}
 use mathlib.Core.Path.{◌≡◌}
-use native.Mathlib.Omega.{arith}
 use lib.Dec.{eqb}
-use Rattle.layout.specs.Bytes.{part, byte_at}
 use Rattle.layout.specs.Search.{some}
-use Rattle.times.specs.Formed.{lowest, highest, misplaced, formed}
-use Rattle.times.proofs.Blocks.{none_short, both_short, all_short}
+use Rattle.times.specs.Formed.{misplaced}
 use Rattle.times.proofs.texts.is_formed.Given as goal
 
 abbrev pub invariant-loop-i : goal.invariant-loop-i

@@ -1,7 +1,6 @@
 -- `times::texts::moment_in` meets its contract.
 -- Assumes nothing.
 use native.Mathlib.Omega.{arith}
-use borrow.Author.Rules.{rules}
 use Rattle.times.proofs.Written.{form}
 use Rattle.times.proofs.Reading.{two_of, moment_read}
 use Rattle.times.proofs.texts.moment_in.Goals as goal

@@ -2,7 +2,6 @@
 -- Assumes nothing.
 use mathlib.Core.Path.{◌∙◌}
 use lib.ListN.{get_or}
-use borrow.Author.Rules.{rules}
 use Rattle.times.proofs.Months.{month-numbered}
 use Rattle.times.proofs.Reading.{three_letters}
 use Rattle.times.proofs.texts.month_in.Goals as goal

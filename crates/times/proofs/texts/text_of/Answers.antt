@@ -4,7 +4,6 @@ use Prim.Native.Nat.{ℕ, ◌/◌, ◌%◌}
 use mathlib.Core.List.{[], ◌∷◌}
 use mathlib.Core.Path.{ap, ◌∙◌}
 use native.Mathlib.Omega.{arith}
-use borrow.Author.Rules.{rules}
 use Rattle.times.proofs.Moments.{valid, valid_day}
 use Rattle.times.proofs.Months.{first_letter, second_letter, third_letter}
 use Rattle.times.proofs.Written.{first-digit, second-digit, as_written}

@@ -1,7 +1,6 @@
 -- `times::texts::two_digits` meets its contract.
 -- Assumes nothing.
 use mathlib.Core.Path.{refl}
-use borrow.Author.Rules.{rules}
 use Rattle.times.specs.Formed.{pair_of}
 use Rattle.times.proofs.texts.two_digits.Goals as goal
 
