@@ -14,7 +14,7 @@ returns-in-Refused c =
     let judged = c.judge_product-verdict in
     let r = told-refused judged.result _ _ c.in-Refused.is judged.ensures in
     let b = c.args.p.now in
-    (sym r, c.none.ensures ∙ ap (λ a. header_for a b) (sym r))
+    record { judged = sym r; valued = c.none.ensures ∙ ap (λ a. header_for a b) (sym r) }
 
 pub at-requires : goal.at-requires
 at-requires c =
@@ -28,4 +28,4 @@ returns c =
     let judged = c.judge_product-verdict in
     let a = told-accepted judged.result _ c.in_default.is judged.ensures in
     let b = c.args.p.now in
-    (sym a, c.at.ensures ∙ ap (λ x. header_for x b) (sym a))
+    record { judged = sym a; valued = c.at.ensures ∙ ap (λ x. header_for x b) (sym a) }

@@ -17,7 +17,7 @@ returns-in-Refused c =
     let judged = c.judge_opened-verdict in
     let r = told-refused judged.result _ _ c.in-Refused.is judged.ensures in
     let b = c.args.p.now in
-    (sym r, c.none.ensures ∙ ap (λ a. directory_for a b) (sym r))
+    record { judged = sym r; listed = c.none.ensures ∙ ap (λ a. directory_for a b) (sym r) }
 
 pub directory_from-requires : goal.directory_from-requires
 directory_from-requires c =
@@ -33,4 +33,4 @@ returns c =
     let o = c.open_headers-opened.ensures in
     let a = told-accepted judged.result _ c.in_default.is judged.ensures in
     let b = c.args.p.now in
-    (sym a, c.directory_from.ensures ∙ now_directory b _ o a ∙ ap (λ x. directory_for x b) (sym a))
+    record { judged = sym a; listed = c.directory_from.ensures ∙ now_directory b _ o a ∙ ap (λ x. directory_for x b) (sym a) }
