@@ -15,20 +15,20 @@ pub returns-then-entry-entries : goal.returns-then-entry-entries
 returns-then-entry-entries c = none_found _ _ c.only_extinction-entry.ensures c.if-entry-entries.true
 
 pub offset_bounds-directory-entry : goal.offset_bounds-directory-entry
-offset_bounds-directory-entry c = omega (arith, found_inside c.args.t1 _ c.only_extinction-entry.ensures c.if-entry-entries.false)
+offset_bounds-directory-entry c = omega (arith, found_inside c.args.directory _ c.only_extinction-entry.ensures c.if-entry-entries.false)
 
 pub bounds-directory-entry : goal.bounds-directory-entry
-bounds-directory-entry c = omega (arith, found_inside c.args.t1 _ c.only_extinction-entry.ensures c.if-entry-entries.false)
+bounds-directory-entry c = omega (arith, found_inside c.args.directory _ c.only_extinction-entry.ensures c.if-entry-entries.false)
 
 pub returns-then-directory-entry-ne-RECORD_SIZE : goal.returns-then-directory-entry-ne-RECORD_SIZE
 returns-then-directory-entry-ne-RECORD_SIZE c =
-    let d = c.args.t1 in
+    let d = c.args.directory in
     wrong_size d _ c.only_extinction-entry.ensures c.if-entry-entries.false (λ h. c.if-directory-entry-ne-RECORD_SIZE.true (ap (of_z w64) h))
 
 pub returns : goal.returns
 returns c =
-    let d = c.args.t1 in
+    let d = c.args.directory in
     let found = c.only_extinction-entry in
     let size = get_or d.record_sizes found.result (pos 0) in
-    let back = to_z-of_z {w = w64} {z = size} (record { sfits = c.t13-1.given }) in
+    let back = to_z-of_z {w = w64} {z = size} (search rules) in
     right_size d _ found.ensures c.if-entry-entries.false (sym back ∙ ap (to_z w64) c.if-directory-entry-ne-RECORD_SIZE.false)
