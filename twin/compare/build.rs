@@ -21,8 +21,8 @@ fn link_library() {
     println!("cargo::rerun-if-changed={}", library.display());
     if !library.is_file() {
         println!(
-            "cargo::error=No {}: run `rt staticlib ambrothel` at the root of the repository first, or name the \
-             folder of libambrothel.a in AMBROTHEL_LIBRARY.",
+            "cargo::error=No {}: run `.ci/library` at the root of the repository first, or name the folder of \
+             libambrothel.a in AMBROTHEL_LIBRARY.",
             library.display()
         );
         return;

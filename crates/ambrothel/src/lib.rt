@@ -1,4 +1,4 @@
-// The reader for C and Rust: every public call, its answer written into rooms that the host lends. `include/ambrothel.h` declares them.
+// The reader for C and Rust: every public call, its answer written into rooms that the host lends. `ambrothel_c` exports each to C.
 // A room too short for the answer returns 1, and nothing is written.
 #![tactic(auto)]
 
@@ -25,8 +25,7 @@ use words::{
     put_point, put_verdict, put_whole_directory, put_whole_header,
 };
 
-#[unsafe(no_mangle)]
-pub extern "C" fn ambrothel_judge(p: &[u8], words: &mut [u64]) -> u32
+pub fn ambrothel_judge(p: &[u8], words: &mut [u64]) -> u32
     ensures { OneRoom (verdict_words (verdict p.now)) words.old words.new result }
 {
     if words.len() < 3 {
@@ -36,9 +35,8 @@ pub extern "C" fn ambrothel_judge(p: &[u8], words: &mut [u64]) -> u32
     WRITTEN
 }
 
-// Numbers from the opening and texts from the product go straight into the rooms: a Directory on the way would be 16 k_b copied once more.
-#[unsafe(no_mangle)]
-pub extern "C" fn ambrothel_open_directory(p: &[u8], words: &mut [u64], texts: &mut [u8]) -> u32
+// Numbers from the opening and texts from the product go straight into the rooms: a Directory on the way would be 16 kB copied once more.
+pub fn ambrothel_open_directory(p: &[u8], words: &mut [u64], texts: &mut [u8]) -> u32
     ensures { DirectoryCall p.now words.old words.new texts.old texts.new result }
 {
     if words.len() < 772 {
@@ -73,8 +71,7 @@ pub extern "C" fn ambrothel_open_directory(p: &[u8], words: &mut [u64], texts: &
     WRITTEN
 }
 
-#[unsafe(no_mangle)]
-pub extern "C" fn ambrothel_header_values(p: &[u8], words: &mut [u64], texts: &mut [u8]) -> u32
+pub fn ambrothel_header_values(p: &[u8], words: &mut [u64], texts: &mut [u8]) -> u32
     ensures { HeaderCall p.now words.old words.new texts.old texts.new result }
 {
     let answer = product::header_values(p);
@@ -83,8 +80,7 @@ pub extern "C" fn ambrothel_header_values(p: &[u8], words: &mut [u64], texts: &m
     put_whole_header(verdict, header, words, texts)
 }
 
-#[unsafe(no_mangle)]
-pub extern "C" fn ambrothel_sph_place(p: &[u8], words: &mut [u64]) -> u32
+pub fn ambrothel_sph_place(p: &[u8], words: &mut [u64]) -> u32
     ensures { OneRoom (place_words (sph_place p.now)) words.old words.new result }
 {
     if words.len() < 5 {
@@ -94,20 +90,13 @@ pub extern "C" fn ambrothel_sph_place(p: &[u8], words: &mut [u64]) -> u32
     WRITTEN
 }
 
-#[unsafe(no_mangle)]
-pub extern "C" fn ambrothel_sph_part(p: &[u8], words: &mut [u64], bytes: &mut [u8]) -> u32
+pub fn ambrothel_sph_part(p: &[u8], words: &mut [u64], bytes: &mut [u8]) -> u32
     ensures { PartRooms (part_of p.now (sph_place p.now)) words.old words.new bytes.old bytes.new result }
 {
     put_part(product::sph_part(p), words, bytes)
 }
 
-#[unsafe(no_mangle)]
-pub extern "C" fn ambrothel_record_place(
-    p: &[u8],
-    entry: usize,
-    asked: usize,
-    words: &mut [u64],
-) -> u32
+pub fn ambrothel_record_place(p: &[u8], entry: usize, asked: usize, words: &mut [u64]) -> u32
     ensures { OneRoom (place_words (record_place p.now entry asked)) words.old words.new result }
 {
     if words.len() < 5 {
@@ -117,8 +106,7 @@ pub extern "C" fn ambrothel_record_place(
     WRITTEN
 }
 
-#[unsafe(no_mangle)]
-pub extern "C" fn ambrothel_record_part(
+pub fn ambrothel_record_part(
     p: &[u8],
     entry: usize,
     asked: usize,
@@ -130,8 +118,7 @@ pub extern "C" fn ambrothel_record_part(
     put_part(product::record_part(p, entry, asked), words, bytes)
 }
 
-#[unsafe(no_mangle)]
-pub extern "C" fn ambrothel_field_at(
+pub fn ambrothel_field_at(
     p: &[u8],
     entry: usize,
     asked: usize,
@@ -148,8 +135,7 @@ pub extern "C" fn ambrothel_field_at(
     WRITTEN
 }
 
-#[unsafe(no_mangle)]
-pub extern "C" fn ambrothel_point_at(
+pub fn ambrothel_point_at(
     p: &[u8],
     entry: usize,
     asked: usize,
@@ -174,8 +160,7 @@ pub extern "C" fn ambrothel_point_at(
 }
 
 // The room for the values is not asked for here: one that is too short is refusal 33.
-#[unsafe(no_mangle)]
-pub extern "C" fn ambrothel_column(
+pub fn ambrothel_column(
     p: &[u8],
     entry: usize,
     from: usize,
@@ -194,8 +179,7 @@ pub extern "C" fn ambrothel_column(
     WRITTEN
 }
 
-#[unsafe(no_mangle)]
-pub extern "C" fn ambrothel_extinction_at(
+pub fn ambrothel_extinction_at(
     p: &[u8],
     asked: usize,
     pixel: usize,
@@ -216,8 +200,7 @@ pub extern "C" fn ambrothel_extinction_at(
     WRITTEN
 }
 
-#[unsafe(no_mangle)]
-pub extern "C" fn ambrothel_time_of_text(text: &[u8], words: &mut [u64]) -> u32
+pub fn ambrothel_time_of_text(text: &[u8], words: &mut [u64]) -> u32
     ensures { OneRoom (time_words (time_of_text text.now)) words.old words.new result }
 {
     if words.len() < 7 {
@@ -227,8 +210,7 @@ pub extern "C" fn ambrothel_time_of_text(text: &[u8], words: &mut [u64]) -> u32
     WRITTEN
 }
 
-#[unsafe(no_mangle)]
-pub extern "C" fn ambrothel_text_of_time(
+pub fn ambrothel_text_of_time(
     days: i32,
     seconds: u32,
     microseconds: u32,

@@ -1,5 +1,5 @@
-//! The program that lists a product, which `rt check listing` builds, beside the twin's listing: random products, those
-//! of the lengths around the longest that is listed, those of the longest listing, and the named ones.
+//! The program that lists a product, which `rt run` in crates/listing builds, beside the twin's listing: random products,
+//! those of the lengths around the longest that is listed, those of the longest listing, and the named ones.
 
 use std::io::{ErrorKind, Write};
 use std::path::{Path, PathBuf};
@@ -30,11 +30,10 @@ impl Program {
     fn from_environment() -> Program {
         let package = Path::new(env!("CARGO_MANIFEST_DIR"));
         let named = std::env::var_os("AMBROTHEL_LISTING");
-        let path = package.join(named.unwrap_or("../../target/bin/listing".into()));
+        let path = package.join(named.unwrap_or("../../crates/listing/out/listing".into()));
         assert!(
             path.is_file(),
-            "No {}: run `rt check listing` at the root of the repository first, or name the program in \
-             AMBROTHEL_LISTING.",
+            "No {}: run `rt run` in crates/listing of the repository first, or name the program in AMBROTHEL_LISTING.",
             path.display()
         );
         let runner = std::env::var_os("AMBROTHEL_RUNNER").unwrap_or_default();

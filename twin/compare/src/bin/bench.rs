@@ -196,9 +196,7 @@ fn print_compilers() {
     println!("          opt-level as built: {}", env!("COMPARE_OPTIMIZED"));
     println!("          other flags: {}", stated(env!("COMPARE_FLAGS")));
     println!("          target features: {}", stated(env!("COMPARE_FEATURES")));
-    println!(
-        "library:  libambrothel.a, built by `rt staticlib ambrothel` (LLVM -O3 unless told otherwise)"
-    );
+    println!("library:  libambrothel.a, built by `.ci/library` (LLVM -O3 unless told otherwise)");
     println!("each time: the best of {ROUNDS} rounds of about {ROUND:?}, alternating, all warm");
     println!();
 }
