@@ -1,11 +1,11 @@
 -- `words::put_numbers` meets its contract. The loop's invariant: the first `i` are stored.
 -- Assumes nothing.
-use Prim.Native.Nat.{◌+◌, ◌-◌, ◌≤◌, ◌<◌}
-use mathlib.Core.Path.{◌≡◌, refl, sym, ap, ◌∙◌}
+use Prim.Native.Nat.{◌+◌, ◌≤◌, ◌<◌}
+use mathlib.Core.Path.{refl, sym, ap, ◌∙◌}
 use native.Mathlib.Omega.{arith}
 use native.Mathlib.Numerals.{add-one}
-use lib.ListN.{length, take, get_or, length-map, get_or-map}
-use lib.Seq.{sets, length-sets, take_all}
+use lib.ListN.{length, get_or, length-map, get_or-map}
+use lib.Seq.{length-sets, take_all}
 use Rattle.writing.proofs.Puts.{one_more}
 use mathlib.Core.List.{map}
 use lib.IntN.{pos}

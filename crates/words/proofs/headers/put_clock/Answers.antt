@@ -2,7 +2,6 @@
 -- Assumes nothing.
 use Rattle.writing.proofs.Puts.{spelled}
 use Rattle.words.proofs.HeaderWords.{word_kept, clock_put}
-use borrow.Author.Rules.{rules}
 use Rattle.words.proofs.headers.put_clock.Goals as goal
 
 pub returns : goal.returns

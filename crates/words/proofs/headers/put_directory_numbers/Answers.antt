@@ -2,7 +2,6 @@
 -- Assumes nothing.
 use native.Mathlib.Omega.{arith}
 use Rattle.writing.proofs.Puts.{then, at_most}
-use borrow.Author.Rules.{rules}
 use Rattle.words.proofs.headers.put_directory_numbers.Goals as goal
 
 pub returns : goal.returns
