@@ -2,9 +2,9 @@
 -- Assumes nothing.
 use Rattle.writing.proofs.Puts.{spelled}
 use Rattle.words.proofs.HeaderWords.{orbit_put}
+use borrow.Author.Rules.{rules}
 use Rattle.words.proofs.headers.put_orbit.Goals as goal
 
 pub returns : goal.returns
 returns c =
-    let told = c.struct_told-1.given in
-    spelled (orbit_put c.args.header told.1.0.1 told.1.1.0.1 told.1.1.1.0.1 told.1.1.1.1.0.1 told.1.1.1.1.1.0.1 told.1.1.1.1.1.1.0.1 told.1.1.1.1.1.1.1.0.1) c.put_numbers.ensures
+    spelled (orbit_put c.args.header (search rules) (search rules) (search rules) (search rules) (search rules) (search rules) (search rules)) c.put_numbers.ensures
