@@ -1,11 +1,11 @@
 -- `words::put_bytes` meets its contract. The loop's invariant: the first `i` are stored.
 -- Assumes nothing.
-use Prim.Native.Nat.{◌+◌, ◌-◌, ◌≤◌}
-use mathlib.Core.Path.{◌≡◌, refl, ◌∙◌}
+use Prim.Native.Nat.{◌+◌, ◌≤◌}
+use mathlib.Core.Path.{refl, ◌∙◌}
 use native.Mathlib.Omega.{arith}
 use native.Mathlib.Numerals.{add-one}
-use lib.ListN.{length, take}
-use lib.Seq.{sets, length-sets, take_all}
+use lib.ListN.{length}
+use lib.Seq.{length-sets, take_all}
 use Rattle.writing.proofs.Puts.{one_more}
 use Rattle.words.proofs.put_bytes.Goals as goal
 

@@ -2,13 +2,10 @@
 -- Assumes nothing.
 use Rattle.writing.proofs.Puts.{spelled}
 use Rattle.words.proofs.AnswerWords.{point-doubles, no_point_doubles}
-use borrow.Author.Rules.{rules}
 use Rattle.words.proofs.put_doubles.Goals as goal
 
 pub returns-in-Refused : goal.returns-in-Refused
 returns-in-Refused c = spelled (no_point_doubles c.args.answer _ c.in-Refused.is) c.put_three.ensures
 
 pub returns-in-At : goal.returns-in-At
-returns-in-At c =
-    let known = c.answer-1.given in
-    spelled (point-doubles c.args.answer known.0.0 known.1) c.put_three-in-At.ensures
+returns-in-At c = spelled (point-doubles c.args.answer _ c.in-At.is) c.put_three-in-At.ensures

@@ -5,7 +5,6 @@ use lib.IntN.{nat_abs}
 use mir.Facts.{to_z-of_z}
 use Rattle.writing.proofs.Signs.{negative, not_negative}
 use Rattle.words.proofs.AnswerWords.{has_magnitude, negative_word, other_word}
-use borrow.Author.Rules.{rules}
 use Rattle.words.proofs.word_of.Goals as goal
 
 pub overflow_sub-result : goal.overflow_sub-result

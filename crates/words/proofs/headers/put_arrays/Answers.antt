@@ -1,7 +1,6 @@
 -- `words::headers::put_arrays` meets its contract.
 -- Assumes nothing.
 use Rattle.writing.proofs.Puts.{then}
-use borrow.Author.Rules.{rules}
 use Rattle.words.proofs.headers.put_arrays.Goals as goal
 
 pub returns : goal.returns

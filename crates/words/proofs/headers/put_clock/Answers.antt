@@ -9,7 +9,7 @@ pub returns : goal.returns
 returns c =
     spelled
     (clock_put c.args.header
-    (word_kept c.args.header.sat_binary_time c.struct_told-1.given.1.0.1 c.word_of.ensures)
-    (word_kept c.args.header.clock_step c.struct_told-2-1.given.1.1.0.1 c.word_of-2.ensures)
-    (word_kept c.args.header.leap_sign c.struct_told-3-1.given.1.1.1.1.0.1 c.word_of-3.ensures))
+    (word_kept c.args.header.sat_binary_time (search rules) c.word_of.ensures)
+    (word_kept c.args.header.clock_step (search rules) c.word_of-2.ensures)
+    (word_kept c.args.header.leap_sign (search rules) c.word_of-3.ensures))
     c.put_words.ensures

@@ -1,7 +1,6 @@
 -- `words::headers::put_directory` meets its contract.
 -- Assumes nothing.
 use Rattle.words.specs.Headers.{directory_words}
-use borrow.Author.Rules.{rules}
 use Rattle.words.proofs.headers.put_directory.Goals as goal
 
 pub returns : goal.returns

@@ -2,10 +2,9 @@
 -- Assumes nothing.
 use native.Mathlib.Omega.{arith}
 use Rattle.writing.proofs.Puts.{then, at_most}
-use borrow.Author.Rules.{rules}
 use Rattle.words.proofs.headers.put_directory_numbers.Goals as goal
 
 pub returns : goal.returns
 returns c =
     let put = then c.put_verdict-judged.ensures (then c.put_words-counted.ensures (then c.put_bytes-typed.ensures (then c.put_arrays-filled.ensures (then c.put_numbers-measured.ensures c.put_words.ensures)))) in
-    at_most 772 put (omega (arith, put.narrow, c.put_bytes-arg-2-1.given, c.put_arrays-arg-4-1.given, c.put_arrays-arg-3-1.given, c.put_arrays-arg-2-1.given, c.put_numbers-arg-2-1.given, c.put_words-arg-3-1.given))
+    at_most 772 put (omega (arith, put.narrow))

@@ -3,7 +3,6 @@
 use native.Mathlib.Omega.{arith}
 use Rattle.writing.proofs.Puts.{at_most}
 use Rattle.words.specs.Headers.{directory_texts}
-use borrow.Author.Rules.{rules}
 use Rattle.words.proofs.headers.put_directory_texts.Goals as goal
 
 pub returns : goal.returns

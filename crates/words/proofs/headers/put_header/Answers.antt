@@ -2,7 +2,6 @@
 -- Assumes nothing.
 use Rattle.writing.proofs.Puts.{then}
 use Rattle.words.specs.Headers.{header_words}
-use borrow.Author.Rules.{rules}
 use Rattle.words.proofs.headers.put_header.Goals as goal
 
 pub returns : goal.returns

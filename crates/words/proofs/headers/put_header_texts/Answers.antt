@@ -3,7 +3,6 @@
 use native.Mathlib.Omega.{arith}
 use Rattle.writing.proofs.Puts.{then, at_most}
 use Rattle.words.specs.Headers.{header_texts}
-use borrow.Author.Rules.{rules}
 use Rattle.words.proofs.headers.put_header_texts.Goals as goal
 
 pub returns : goal.returns

@@ -2,7 +2,6 @@
 -- Assumes nothing.
 use Rattle.writing.proofs.Puts.{spelled}
 use Rattle.words.proofs.HeaderWords.{identity_put}
-use borrow.Author.Rules.{rules}
 use Rattle.words.proofs.headers.put_identity.Goals as goal
 
 pub returns : goal.returns

@@ -7,5 +7,4 @@ use Rattle.words.proofs.headers.put_orbit.Goals as goal
 
 pub returns : goal.returns
 returns c =
-    let told = c.struct_told-1.given in
-    spelled (orbit_put c.args.header told.1.0.1 told.1.1.0.1 told.1.1.1.0.1 told.1.1.1.1.0.1 told.1.1.1.1.1.0.1 told.1.1.1.1.1.1.0.1 told.1.1.1.1.1.1.1.0.1) c.put_numbers.ensures
+    spelled (orbit_put c.args.header (search rules) (search rules) (search rules) (search rules) (search rules) (search rules) (search rules)) c.put_numbers.ensures

@@ -9,7 +9,7 @@ pub returns : goal.returns
 returns c =
     spelled
     (sensing_put c.args.header
-    (word_kept c.args.header.«cycle» c.struct_told-1.given.1.1.1.0.1 c.word_of.ensures)
-    (word_kept c.args.header.rel_orbit c.struct_told-2-1.given.1.1.1.1.0.1 c.word_of-2.ensures)
-    (word_kept c.args.header.abs_orbit c.struct_told-3-1.given.1.1.1.1.1.0.1 c.word_of-3.ensures))
+    (word_kept c.args.header.«cycle» (search rules) c.word_of.ensures)
+    (word_kept c.args.header.rel_orbit (search rules) c.word_of-2.ensures)
+    (word_kept c.args.header.abs_orbit (search rules) c.word_of-3.ensures))
     c.put_words.ensures

@@ -9,9 +9,9 @@ pub returns : goal.returns
 returns c =
     spelled
     (sizes_put c.args.header
-    (word_kept c.args.header.tot_size c.struct_told-1.given.1.0.1 c.word_of.ensures)
-    (word_kept c.args.header.sph_size c.struct_told-2-1.given.1.1.0.1 c.word_of-2.ensures)
-    (word_kept c.args.header.num_dsd c.struct_told-3-1.given.1.1.1.0.1 c.word_of-3.ensures)
-    (word_kept c.args.header.dsd_size c.struct_told-4-1.given.1.1.1.1.0.1 c.word_of-4.ensures)
-    (word_kept c.args.header.num_data_sets c.struct_told-5-1.given.1.1.1.1.1.0.1 c.word_of-5.ensures))
+    (word_kept c.args.header.tot_size (search rules) c.word_of.ensures)
+    (word_kept c.args.header.sph_size (search rules) c.word_of-2.ensures)
+    (word_kept c.args.header.num_dsd (search rules) c.word_of-3.ensures)
+    (word_kept c.args.header.dsd_size (search rules) c.word_of-4.ensures)
+    (word_kept c.args.header.num_data_sets (search rules) c.word_of-5.ensures))
     c.put_words.ensures

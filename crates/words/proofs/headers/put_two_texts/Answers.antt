@@ -1,7 +1,6 @@
 -- `words::headers::put_two_texts` meets its contract.
 -- Assumes nothing.
 use Rattle.writing.proofs.Puts.{then}
-use borrow.Author.Rules.{rules}
 use Rattle.words.proofs.headers.put_two_texts.Goals as goal
 
 pub returns : goal.returns

@@ -2,7 +2,6 @@
 -- Assumes nothing.
 use native.Mathlib.Omega.{arith}
 use Rattle.words.proofs.Lent.{first_short, second_short, both_written}
-use borrow.Author.Rules.{rules}
 use Rattle.words.proofs.rooms.put_part.Goals as goal
 
 pub returns-then-words-lt1 : goal.returns-then-words-lt1
