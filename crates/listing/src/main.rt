@@ -2,24 +2,34 @@
 // Where the input cannot be read it lists nothing, and where the output cannot be written it says so too.
 #![tactic(auto)]
 
-use libc::{STDIN_FILENO, STDOUT_FILENO};
+ghost use Rattle.std.specs.Prelude.{OnOk};
+ghost use Rattle.std.specs.Io.KnownBytes.{Appends};
+ghost use Rattle.layout.specs.Listing.{listing};
+
+use std::io;
+use std::io::Write;
+use std::rt::Files;
 use streams::Arrived;
 
 // Writes the listing of a product, and answers whether it got where it goes.
-fn write_listing(product: &[u8]) -> bool {
+fn write_listing<W: Write>(files: &impl Files, output: &mut W, product: &[u8]) -> io::Result<()>
+    ensures { OnOk result (Appends (W.contents output.old) (W.contents output.new) (listing product.now)) }
+{
     let mut out = [0u8; 32768];
     let written = listing_text::list_product(product, &mut out);
-    io::write_all(STDOUT_FILENO, &out[..written]) && streams::end_output()
+    output.write_all(&out[..written])?;
+    streams::end_output(files)
 }
 
-fn main() {
+fn main(rt: HostRuntime) -> io::Result<()> {
     let mut input = [0u8; 65537];
-    let arrived = streams::read_whole(STDIN_FILENO, &mut input);
-    let Arrived::Whole(length) = arrived else {
-        os::fail(b"listing: standard input");
-        return;
+    let arrived = streams::read_whole(&mut rt.stdin(), &mut input);
+    let length = match arrived {
+        Arrived::Whole(length) => length,
+        Arrived::Failed(error) => return streams::say_failed(&rt, "listing: standard input", error),
     };
-    if !write_listing(&input[..length]) {
-        os::fail(b"listing: standard output");
+    match write_listing(&rt, &mut rt.stdout(), &input[..length]) {
+        Ok(()) => Ok(()),
+        Err(error) => streams::say_failed(&rt, "listing: standard output", error),
     }
 }

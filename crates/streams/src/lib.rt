@@ -1,30 +1,35 @@
-// An input that arrived whole, or the word that it did not (`io::read_full` stops at a read that fails as at the input's end); and the end of an output.
+// An input that arrived whole, or the word that it did not and why; the end of an output; and the line that says what failed.
 #![tactic(auto)]
 
-ghost use Rattle.streams.specs.Arrivals.{Fills};
+ghost use Rattle.std.specs.Prelude.{IfSome};
+ghost use Rattle.streams.specs.Arrivals.{Fills, Holds};
 
-use libc::STDOUT_FILENO;
+use std::fmt::{Display, InlineText};
+use std::fs::{File, OpenFile};
+use std::io::{ErrorKind, Read};
+use std::rt::Files;
+use std::{fs, io};
 
 // What came of an input.
 #[derive(Clone, Copy)]
 pub enum Arrived {
     // So many bytes at the start of the room: all of the input, or as many as the room holds.
     Whole(usize),
-    // A read failed, and errno has the reason.
-    Failed,
+    // A read failed, for this reason.
+    Failed(io::Error),
 }
 
 // Reads until the input ends or the room is full. Where one read fails, what came before it is no input.
-pub fn read_whole(fd: i32, room: &mut [u8]) -> Arrived
-    ensures { Fills result room.new }
+pub fn read_whole<R: Read>(input: &mut R, room: &mut [u8]) -> Arrived
+    ensures fills { Fills result room.new }
+    ensures holds { IfSome (R.remaining input.old) (Holds result room.new) }
 {
     let mut done = 0;
     while done < room.len() {
-        let got = libc::read(fd, &mut room[done..]);
-        if got < 0 {
-            return Arrived::Failed;
-        }
-        let more = io::count(got, &room[done..]);
+        let more = match input.read(&mut room[done..]) {
+            Ok(more) => more,
+            Err(error) => return Arrived::Failed(error),
+        };
         if more == 0 {
             return Arrived::Whole(done);
         }
@@ -33,7 +38,44 @@ pub fn read_whole(fd: i32, room: &mut [u8]) -> Arrived
     Arrived::Whole(done)
 }
 
-// Closes standard output, and answers whether all that was written to it got where it goes: a network file system says only now that its disk is full.
-pub fn end_output() -> bool {
-    libc::close(STDOUT_FILENO) == 0
+// Standard output as a file, where it is one.
+const OUTPUT: &str = "/dev/stdout";
+
+// Whether this error of a sync says only that what was written to has no sync.
+fn has_no_sync(error: &io::Error) -> bool {
+    matches!(
+        error.kind(),
+        ErrorKind::InvalidInput | ErrorKind::Unsupported
+    )
+}
+
+// Answers whether all that was written to standard output got where it goes: a network file system says only now that its disk is full. Of a pipe or a
+// terminal, and of a file that may not be opened again, the writes have said all that there is to know.
+pub fn end_output(files: &impl Files) -> io::Result<()> {
+    match fs::metadata(files, OUTPUT) {
+        Ok(found) if found.is_file() => {}
+        _ => return Ok(()),
+    }
+    let Ok(file) = File::options().write(true).open(files, OUTPUT) else {
+        return Ok(());
+    };
+    match file.sync_data() {
+        Err(error) if !has_no_sync(&error) => Err(error),
+        _ => Ok(()),
+    }
+}
+
+// Writes a line to standard error: what failed, and the system's words for why, without the number that std puts behind them.
+pub fn say_failed<D: Display + Drop>(
+    rt: &impl Eprint,
+    what: D,
+    error: io::Error,
+) -> io::Result<()> {
+    let text = InlineText::<128>::of(error);
+    let said = text.as_str();
+    let reason = match said.split_once(" (os error ") {
+        Some((words, _)) => words,
+        None => said,
+    };
+    eprintln!(rt; "{what}: {reason}")
 }

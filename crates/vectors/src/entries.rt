@@ -2,6 +2,7 @@
 ghost use Rattle.std.specs.Prelude.{◌≡◌, ◌≤◌, length};
 
 use crate::printing::{print_numbered, print_words};
+use std::io;
 
 // Where the directory's words and texts have what, as `include/ambrothel.h` names it.
 pub const ENTRIES: usize = 3;
@@ -24,7 +25,7 @@ const FILENAMES: usize = 3584;
 
 const FILENAME_LENGTH: usize = 62;
 
-fn show_numbers(words: &[u64; 772], i: usize) -> bool
+fn show_numbers(rt: &impl Print, words: &[u64; 772], i: usize) -> io::Result<()>
     requires { i ≤ 127 }
 {
     let numbers = [
@@ -36,43 +37,41 @@ fn show_numbers(words: &[u64; 772], i: usize) -> bool
         words[RANKS + i],
     ];
     let number = [i as u64];
-    print_words(b"entry ", &number, &numbers)
+    print_words(rt, b"entry ", &number, &numbers)
 }
 
-fn show_name(texts: &[u8], i: usize) -> bool
+fn show_name(rt: &impl Print, texts: &[u8], i: usize) -> io::Result<()>
     requires { (i ≤ 127) × (length texts.now ≡ 11520) }
 {
     let start = NAME_LENGTH * i;
     let end = start + NAME_LENGTH;
-    print_numbered(b"name ", i as u64, &texts[start..end])
+    print_numbered(rt, b"name ", i as u64, &texts[start..end])
 }
 
-fn show_filename(texts: &[u8], i: usize) -> bool
+fn show_filename(rt: &impl Print, texts: &[u8], i: usize) -> io::Result<()>
     requires { (i ≤ 127) × (length texts.now ≡ 11520) }
 {
     let start = FILENAMES + FILENAME_LENGTH * i;
     let end = start + FILENAME_LENGTH;
-    print_numbered(b"filename ", i as u64, &texts[start..end])
+    print_numbered(rt, b"filename ", i as u64, &texts[start..end])
 }
 
-fn show_entry(words: &[u64; 772], texts: &[u8], i: usize) -> bool
+fn show_entry(rt: &impl Print, words: &[u64; 772], texts: &[u8], i: usize) -> io::Result<()>
     requires { (i ≤ 127) × (length texts.now ≡ 11520) }
 {
-    show_numbers(words, i) && show_name(texts, i) && show_filename(texts, i)
+    show_numbers(rt, words, i)?;
+    show_name(rt, texts, i)?;
+    show_filename(rt, texts, i)
 }
 
-pub fn show_entries(words: &[u64; 772], texts: &[u8]) -> bool
+pub fn show_entries(rt: &impl Print, words: &[u64; 772], texts: &[u8]) -> io::Result<()>
     requires { length texts.now ≡ 11520 }
 {
-    let mut i = 0;
-    while i < 128 {
+    for i in 0..128 {
         if words[ENTRIES] <= (i as u64) {
-            return true;
+            return Ok(());
         }
-        if !show_entry(words, texts, i) {
-            return false;
-        }
-        i += 1;
+        show_entry(rt, words, texts, i)?;
     }
-    true
+    Ok(())
 }

@@ -5,6 +5,7 @@
 #![tactic(auto)]
 
 ghost use Rattle.std.specs.Prelude.{◌≤◌, length};
+ghost use Rattle.streams.specs.Arrivals.{Fills};
 
 mod calls;
 mod entries;
@@ -13,88 +14,111 @@ mod printing;
 mod records;
 
 use calls::show_product;
-use libc::STDERR_FILENO;
 use printing::print_text;
+use std::env::FillError;
+use std::fs::File;
+use std::rt::{Env, Files};
+use std::{io, str};
 use streams::Arrived;
-use writing::put_text;
 
-// Says of a file why it cannot be read: errno's text, so it comes right behind the call that failed.
-fn say_unread(name: &[u8])
-    requires { length name.now ≤ 512 }
-{
-    let mut out = [0u8; 1024];
-    let begun = put_text(&mut out, 0, b"vectors: ");
-    let ended = put_text(&mut out, begun, name);
-    os::fail(&out[..ended]);
+// Says of a file why it cannot be read. Where that cannot be said there is nobody to tell.
+fn say_unread(rt: &impl Eprint, name: &str, error: io::Error) {
+    let _ = streams::say_failed(rt, format_args!("vectors: {name}"), error);
 }
 
 // A file as it was read. One that fills the room is longer than 65,536 bytes, and its beginning is not judged.
-fn show_read(name: &[u8], p: &[u8]) -> bool
+fn show_read(rt: &impl Print, name: &str, p: &[u8]) -> io::Result<()>
     requires { length name.now ≤ 512 }
 {
-    if !print_text(b"product ", name) {
-        return false;
-    }
+    print_text(rt, b"product ", name.as_bytes())?;
     if 65536 < p.len() {
-        return print_text(b"longer than 65536", b"");
+        return print_text(rt, b"longer than 65536", b"");
     }
-    show_product(p)
+    show_product(rt, p)
+}
+
+// A file, which is closed again before anything is written of it.
+fn read_file(files: &impl Files, name: &str, room: &mut [u8]) -> Arrived
+    ensures { Fills result room.new }
+{
+    match File::open(files, name) {
+        Ok(mut file) => streams::read_whole(&mut file, room),
+        Err(error) => Arrived::Failed(error),
+    }
 }
 
 // The product in a file. Of one that cannot be read there is nothing to write.
-fn show_file(name: &[u8]) -> bool
+fn show_file(rt: &(impl Files + Print + Eprint), name: &str) -> io::Result<()>
     requires { length name.now ≤ 512 }
 {
-    let file = os::open_read(name);
-    if file < 0 {
-        say_unread(name);
-        return true;
-    }
     let mut input = [0u8; 65537];
-    let arrived = streams::read_whole(file, &mut input);
-    let Arrived::Whole(length) = arrived else {
-        say_unread(name);
-        libc::close(file);
-        return true;
-    };
-    libc::close(file);
-    show_read(name, &input[..length])
+    match read_file(rt, name, &mut input) {
+        Arrived::Whole(length) => show_read(rt, name, &input[..length]),
+        Arrived::Failed(error) => {
+            say_unread(rt, name, error);
+            Ok(())
+        }
+    }
+}
+
+// The system's number for a name that is too long.
+const NAME_TOO_LONG: i32 = 36;
+
+// Says what is wrong with an argument.
+fn say_refused(rt: &impl Eprint, what: &str) {
+    let _ = eprintln!(rt; "vectors: {what}");
 }
 
 // The file that an argument names, or what is wrong with the argument.
-fn show_argument(i: usize) -> bool {
+fn show_argument(rt: &(impl Env + Files + Print + Eprint), i: usize) -> io::Result<()> {
     let mut name = [0u8; 512];
-    let length = os::arg(i, &mut name);
-    if os::errno() != 0 {
-        os::fail(b"vectors: an argument longer than 512 bytes");
-        return true;
-    }
+    let Ok(length) = rt.arg(i, &mut name) else {
+        let error = io::Error::from_raw_os_error(NAME_TOO_LONG);
+        say_unread(rt, "an argument longer than 512 bytes", error);
+        return Ok(());
+    };
     if length == 0 {
-        io::write_all(STDERR_FILENO, b"vectors: an empty argument\n");
-        return true;
+        say_refused(rt, "an empty argument");
+        return Ok(());
     }
-    show_file(&name[..length])
+    let Ok(name) = str::from_utf8(&name[..length]) else {
+        say_refused(rt, "an argument that is not UTF-8");
+        return Ok(());
+    };
+    show_file(rt, name)
 }
 
 // The files that the arguments name, in their order, up to a line that is not written.
-fn show_arguments(count: usize) -> bool {
-    let mut i = 1;
-    while i < count {
-        if !show_argument(i) {
-            return false;
-        }
-        i += 1;
+fn show_arguments(rt: &(impl Env + Files + Print + Eprint), count: usize) -> io::Result<()> {
+    for i in 1..count {
+        show_argument(rt, i)?;
     }
-    true
+    Ok(())
 }
 
-fn main() {
-    let count = os::arg_count();
-    if count < 2 {
-        io::write_all(STDERR_FILENO, b"usage: vectors PRODUCT ..\n");
-        return;
+// The same, and whether all that was written got where it goes.
+fn write_vectors(rt: &(impl Env + Files + Print + Eprint), count: usize) -> io::Result<()> {
+    show_arguments(rt, count)?;
+    streams::end_output(rt)
+}
+
+// How many arguments there are, the program's own name among them.
+fn argument_count(rt: &impl Env) -> usize {
+    for i in 0..usize::MAX {
+        if let Err(FillError::NotPresent) = rt.arg(i, &mut []) {
+            return i;
+        }
     }
-    if !(show_arguments(count) && streams::end_output()) {
-        os::fail(b"vectors: standard output");
+    usize::MAX
+}
+
+fn main(rt: HostRuntime) -> io::Result<()> {
+    let count = argument_count(&rt);
+    if count < 2 {
+        return eprintln!(rt; "usage: vectors PRODUCT ..");
+    }
+    match write_vectors(&rt, count) {
+        Ok(()) => Ok(()),
+        Err(error) => streams::say_failed(&rt, "vectors: standard output", error),
     }
 }

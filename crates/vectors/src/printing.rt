@@ -1,7 +1,7 @@
-// Lines of standard output. Each function answers whether its line was written.
+// Lines of standard output. Each function that prints answers whether its line was written.
 ghost use Rattle.std.specs.Prelude.{◌≡◌, ◌+◌, ◌*◌, ◌≤◌, length};
 
-use libc::STDOUT_FILENO;
+use std::io;
 use writing::{put_number, put_text};
 
 // Numbers, a blank behind each.
@@ -10,16 +10,14 @@ fn put_words(out: &mut [u8], at: usize, words: &[u64]) -> usize
     ensures { (at ≤ result) × (result ≤ at + 21 * length words.now) }
 {
     let mut next = at;
-    let mut i = 0;
-    while i < words.len() {
-        next = put_number(out, next, words[i], b' ');
-        i += 1;
+    for word in words {
+        next = put_number(out, next, *word, b' ');
     }
     next
 }
 
 // A line of a call's name, what is asked and what is answered. The blank behind the last number makes way for the line's end.
-pub fn print_words(name: &[u8], asked: &[u64], words: &[u64]) -> bool
+pub fn print_words(rt: &impl Print, name: &[u8], asked: &[u64], words: &[u64]) -> io::Result<()>
     requires { ((1 ≤ length name.now) × (length name.now ≤ 64)) × ((length asked.now ≤ 6) × (length words.now ≤ 25)) }
 {
     let mut out = [0u8; 1024];
@@ -27,22 +25,22 @@ pub fn print_words(name: &[u8], asked: &[u64], words: &[u64]) -> bool
     let begun = put_words(&mut out, named, asked);
     let ended = put_words(&mut out, begun, words);
     out[ended - 1] = b'\n';
-    io::write_all(STDOUT_FILENO, &out[..ended])
+    rt.write_all(&out[..ended])
 }
 
 // A line of a name and a text as it is.
-pub fn print_text(name: &[u8], text: &[u8]) -> bool
+pub fn print_text(rt: &impl Print, name: &[u8], text: &[u8]) -> io::Result<()>
     requires { (length name.now ≤ 64) × (length text.now ≤ 512) }
 {
     let mut out = [0u8; 1024];
     let named = put_text(&mut out, 0, name);
     let shown = put_text(&mut out, named, text);
     let ended = put_text(&mut out, shown, b"\n");
-    io::write_all(STDOUT_FILENO, &out[..ended])
+    rt.write_all(&out[..ended])
 }
 
 // The same with a number before the text.
-pub fn print_numbered(name: &[u8], number: u64, text: &[u8]) -> bool
+pub fn print_numbered(rt: &impl Print, name: &[u8], number: u64, text: &[u8]) -> io::Result<()>
     requires { (length name.now ≤ 64) × (length text.now ≤ 512) }
 {
     let mut out = [0u8; 1024];
@@ -50,7 +48,7 @@ pub fn print_numbered(name: &[u8], number: u64, text: &[u8]) -> bool
     let numbered = put_number(&mut out, named, number, b' ');
     let shown = put_text(&mut out, numbered, text);
     let ended = put_text(&mut out, shown, b"\n");
-    io::write_all(STDOUT_FILENO, &out[..ended])
+    rt.write_all(&out[..ended])
 }
 
 fn at_most_16(size: u64) -> usize
@@ -60,12 +58,18 @@ fn at_most_16(size: u64) -> usize
 }
 
 // A part's size and at most 16 of its bytes.
-pub fn print_part(name: &[u8], asked: &[u64], size: u64, bytes: &[u8]) -> bool
+pub fn print_part(
+    rt: &impl Print,
+    name: &[u8],
+    asked: &[u64],
+    size: u64,
+    bytes: &[u8],
+) -> io::Result<()>
     requires { ((1 ≤ length name.now) × (length name.now ≤ 64)) × ((length asked.now ≤ 6) × (16 ≤ length bytes.now)) }
 {
     let mut line = [0u64; 17];
     line[0] = size;
     let shown = at_most_16(size);
     let end = words::put_bytes(&mut line, 1, &bytes[..shown]);
-    print_words(name, asked, &line[..end])
+    print_words(rt, name, asked, &line[..end])
 }

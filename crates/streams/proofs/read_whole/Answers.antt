@@ -1,62 +1,27 @@
--- `streams::read_whole` meets its contract: the loop's invariant is that what has arrived fits the room, and that the room keeps its length.
+-- `streams::read_whole` meets its contract: what a read puts behind what has arrived is what the input gave next.
 -- Assumes nothing.
-use Prim.Native.Nat.{◌-◌, ◌≤◌}
-use mathlib.Core.Path.{◌≡◌, refl}
-use native.Mathlib.Omega.{arith}
-use lib.ListN.{length}
-use Rattle.io.proofs.Counting.{prefix_len_of_le}
+use Rattle.std.proofs.Common.{◌≡◌, ℕ, ◌+◌, ◌-◌, ◌≤◌, List, ◌++◌, rules, length, take, sym, ap, ◌∙◌, subst, length-take-le}
+use Rattle.std.proofs.Math.Seq.{take-append-add}
+use Rattle.std.proofs.lemmas.List.{take-append-le}
+use Rattle.std.specs.Io.KnownBytes.{Consumes}
+use Rattle.std.proofs.KnownBytes.{Consumes-trans}
+use borrow.Rule.Slice.PartMut.{put_mid, post_of}
 use Rattle.streams.proofs.read_whole.Goals as goal
 
-pub loop-done-init : goal.loop-done-init
-loop-done-init c = (omega arith, refl)
-
-pub slice_bounds-read-count : goal.slice_bounds-read-count
-slice_bounds-read-count c = omega arith
-
-pub slice_bounds-read-start : goal.slice_bounds-read-start
-slice_bounds-read-start c = omega arith
-
-pub slice_bounds-read-end : goal.slice_bounds-read-end
-slice_bounds-read-end c = omega arith
-
-pub read-got-requires : goal.read-got-requires
-read-got-requires c = tt
-
-pub shape_of-room-then-got-lt0 : goal.shape_of-room-then-got-lt0
-shape_of-room-then-got-lt0 c = omega arith
-
-pub returns-then-got-lt0 : goal.returns-then-got-lt0
-returns-then-got-lt0 c = tt
-
-pub slice_bounds-count-count : goal.slice_bounds-count-count
-slice_bounds-count-count c = omega arith
-
-pub slice_bounds-count-start : goal.slice_bounds-count-start
-slice_bounds-count-start c = omega arith
-
-pub slice_bounds-count-end : goal.slice_bounds-count-end
-slice_bounds-count-end c = omega arith
-
-pub count-more-requires : goal.count-more-requires
-count-more-requires c = tt
-
-pub shape_of-room-then-more-eq0 : goal.shape_of-room-then-more-eq0
-shape_of-room-then-more-eq0 c = omega arith
-
-pub returns-then-more-eq0 : goal.returns-then-more-eq0
-returns-then-more-eq0 c = prefix_len_of_le _ _ (omega arith)
-
-pub overflow_add-done : goal.overflow_add-done
-overflow_add-done c = omega arith
-
-pub loop-done-smaller : goal.loop-done-smaller
-loop-done-smaller c = omega arith
+-- the bytes up to the end of what the part behind the first a bytes now begins with
+take-put_mid : (a k n : ℕ) (xs ys : List ℕ) → a ≤ length xs → n ≤ length ys → take (a + n) (put_mid a k xs ys) ≡ take a xs ++ take n ys
+take-put_mid a k n xs ys within fits =
+    let rest = ys ++ post_of a k xs in
+    ap (λ m. take (m + n) (take a xs ++ rest)) (sym (length-take-le a xs within))
+    ∙ take-append-add (take a xs) rest n ∙ ap (λ l. take a xs ++ l) (take-append-le n ys (post_of a k xs) fits)
 
 pub loop-done-preserved : goal.loop-done-preserved
-loop-done-preserved c = omega arith
-
-pub shape_of-room : goal.shape_of-room
-shape_of-room c = omega arith
-
-pub returns : goal.returns
-returns c = prefix_len_of_le _ _ (omega arith)
+loop-done-preserved g c =
+    let done = c.loop-done.done in
+    let room = c.loop-done.room in
+    let joined = take-put_mid done (length room - done) c.in-Ok.more room c.read.new.buf c.loop-done.invariant.within c.in-Ok.ensures.bound.0 in
+    record {
+      within = search rules;
+      kept = search rules;
+      given = subst (Consumes _ _) (sym joined) (Consumes-trans _ _ _ _ _ c.loop-done.invariant.given c.in-Ok.ensures.bytes.0);
+    }

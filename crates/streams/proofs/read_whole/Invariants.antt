@@ -1,12 +1,14 @@
-use Prim.Native.Nat.{◌-◌, ◌≤◌}
-use mathlib.Core.Path.{◌≡◌, refl}
-use native.Mathlib.Omega.{arith}
-use lib.ListN.{length}
-use Rattle.io.proofs.Counting.{prefix_len_of_le}
+use Rattle.std.proofs.Common.{◌≡◌, ◌-◌, ◌≤◌, length, take}
+use Rattle.std.specs.Io.KnownBytes.{Consumes}
 use Rattle.streams.proofs.read_whole.Given as goal
 
+-- what has arrived fits the room, and is what the input gave
 abbrev pub invariant-loop-done : goal.invariant-loop-done
-invariant-loop-done l = (l.done ≤ length l.room) × (length l.room ≡ length l.initial.room)
+invariant-loop-done g l = record {
+  within : l.done ≤ length l.room;
+  kept : length l.room ≡ length l.initial.room;
+  given : Consumes (g.R.Read.remaining l.initial.input) (g.R.Read.remaining l.input) (take l.done l.room);
+}
 
 abbrev pub decreases-loop-done : goal.decreases-loop-done
-decreases-loop-done l = length l.room - l.done
+decreases-loop-done g l = length l.initial.room - l.done
