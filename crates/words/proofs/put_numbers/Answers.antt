@@ -1,11 +1,11 @@
 -- `words::put_numbers` meets its contract. The loop's invariant: the first `i` are stored.
 -- Assumes nothing.
 use Prim.Native.Nat.{◌+◌, ◌≤◌, ◌<◌}
-use mathlib.Core.Path.{◌≡◌, refl, sym, ap, ◌∙◌}
+use mathlib.Core.Path.{◌≡◌, sym, ap, ◌∙◌}
 use native.Mathlib.Omega.{arith}
 use native.Mathlib.Numerals.{add-one}
 use lib.ListN.{length, get_or, length-map, get_or-map}
-use lib.Seq.{length-sets, take_all}
+use lib.Seq.{take_all}
 use Rattle.writing.proofs.Puts.{one_more}
 use mathlib.Core.List.{map}
 use lib.IntN.{pos}
@@ -15,33 +15,6 @@ use borrow.Author.Rules.{rules}
 use Rattle.words.specs.Words.{word}
 use Rattle.words.proofs.put_numbers.Goals as goal
 
-pub loop-i-init : goal.loop-i-init
-loop-i-init c = (omega arith, refl)
-
-pub offset_bounds-numbers-i : goal.offset_bounds-numbers-i
-offset_bounds-numbers-i c = omega arith
-
-pub bounds-numbers-i : goal.bounds-numbers-i
-bounds-numbers-i c = omega arith
-
-pub word_of-requires : goal.word_of-requires
-word_of-requires c = tt
-
-pub overflow_add-room : goal.overflow_add-room
-overflow_add-room c = omega arith
-
-pub offset_bounds-room-at : goal.offset_bounds-room-at
-offset_bounds-room-at c = omega arith
-
-pub bounds-room-at : goal.bounds-room-at
-bounds-room-at c = rw (c.loop-i.invariant.1, length-sets) (omega arith)
-
-pub overflow_add-i : goal.overflow_add-i
-overflow_add-i c = omega arith
-
-pub loop-i-smaller : goal.loop-i-smaller
-loop-i-smaller c = omega arith
-
 pub loop-i-preserved : goal.loop-i-preserved
 loop-i-preserved c =
     let turn = c.loop-i in
@@ -49,15 +22,9 @@ loop-i-preserved c =
     let numbers = c.args.numbers.now in
     let more : i + 1 ≤ length numbers = omega arith in
     let kept : to_z w64 (of_z w64 (get_or numbers i (pos 0))) ≡ get_or numbers i (pos 0) = search rules in
-    let is = c.word_of.ensures ∙ ap word (kept) ∙ sym (get_or-map word numbers i (pos 0)) in
+    let is = c.word_of.ensures ∙ ap word kept ∙ sym (get_or-map word numbers i (pos 0)) in
     let below : i < length (map word numbers) = rw length-map (omega arith) in
     (more, rw (turn.invariant.1, is, one_more _ (map word numbers) _ i (word (pos 0)) below, add-one i))
-
-pub overflow_add-result : goal.overflow_add-result
-overflow_add-result c = omega arith
-
-pub shape_of-room : goal.shape_of-room
-shape_of-room c = rw (c.loop-i.invariant.1, length-sets)
 
 pub returns : goal.returns
 returns c =
