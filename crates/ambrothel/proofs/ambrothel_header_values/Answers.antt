@@ -6,4 +6,4 @@ use Rattle.ambrothel.proofs.ambrothel_header_values.Goals as goal
 pub returns : goal.returns
 returns c =
     let answered = c.header_values-answer in
-    rw (← answered.ensures.1, ← answered.ensures.0) c.put_whole_header.ensures
+    rw (← answered.ensures.valued, ← answered.ensures.judged) c.put_whole_header.ensures

@@ -10,13 +10,6 @@ use Rattle.ambrothel.proofs.Rooms.{words_long, texts_long, Held, opened_held, al
 use borrow.Author.Rules.{rules}
 use Rattle.ambrothel.proofs.ambrothel_open_directory.Goals as goal
 
--- what the opening holds where it is accepted
-held : (s : tie.After-enum-told) → Held s.before.before.before.before.before.before.before.before.before.args.p.now s.before.before.before.open-headers.result.dsds s.before.before.before.open-headers.result.sets
-held s =
-    let judged = s.before.before.judge-opened in
-    let opened = s.before.before.before.open-headers in
-    opened_held _ opened.result opened.ensures judged.result s.enum_told.given.1 judged.ensures
-
 pub returns-then-words-lt772 : goal.returns-then-words-lt772
 returns-then-words-lt772 c = first_short (rw (words_long c.args.p.now) c.if-words-lt772.true)
 
@@ -32,20 +25,20 @@ returns-in-Refused c =
     rw (told-refused judged.result _ _ c.in-Refused.is judged.ensures, ← c.none.ensures) c.put_whole_directory.ensures
 
 pub rank_sets-requires : goal.rank_sets-requires
-rank_sets-requires c = ((held c.before.before.before.before.before).few, refl)
+rank_sets-requires c = ((opened_held _ c.open_headers-opened.result c.open_headers-opened.ensures c.judge_opened-verdict.result c.in_default.is c.judge_opened-verdict.ensures).few, refl)
 
 pub put_names-named-requires : goal.put_names-named-requires
 put_names-named-requires c =
-    let h = held c.before.before.before.before.before.before.before.before.before.before.before.before.before.before.before.before.before.before in
+    let h = opened_held _ c.open_headers-opened.result c.open_headers-opened.ensures c.judge_opened-verdict.result c.in_default.is c.judge_opened-verdict.ensures in
     (h.inside, h.few, omega (arith, c.if-texts-lt11520.false))
 
 pub put_filenames-requires : goal.put_filenames-requires
 put_filenames-requires c =
-    let h = held c.before.before.before.before.before.before.before.before.before.before.before.before.before.before.before.before.before.before.before.before.before.before in
+    let h = opened_held _ c.open_headers-opened.result c.open_headers-opened.ensures c.judge_opened-verdict.result c.in_default.is c.judge_opened-verdict.ensures in
     let named = c.put_names-named.ensures in
     (h.inside, h.few, omega (arith, named.next, named.narrow, same_room named, c.if-texts-lt11520.false))
 
 pub returns : goal.returns
 unfolding verdict_is
 returns c =
-    all_put _ _ _ (held c.before.before.before.before.before.before.before.before.before.before.before.before.before.before.before.before.before.before.before.before.before.before.before.before.before) c.rank_sets.ensures c.if-words-lt772.false c.if-texts-lt11520.false c.put_directory_numbers.ensures c.put_names-named.ensures c.put_filenames.ensures
+    all_put _ _ _ (opened_held _ c.open_headers-opened.result c.open_headers-opened.ensures c.judge_opened-verdict.result c.in_default.is c.judge_opened-verdict.ensures) c.rank_sets.ensures c.if-words-lt772.false c.if-texts-lt11520.false c.put_directory_numbers.ensures c.put_names-named.ensures c.put_filenames.ensures

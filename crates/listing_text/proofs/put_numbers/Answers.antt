@@ -12,7 +12,7 @@ use Rattle.listing_text.proofs.put_numbers.Goals as goal
 pub returns : goal.returns
 returns c =
     let entry = c.args.entry in
-    let back = to_z-of_z {w = w64} {z = entry.record_size} (record { sfits = c.struct_told-1.given.1.1.1.1.1.0.1 }) in
+    let back = to_z-of_z {w = w64} {z = entry.record_size} (search rules) in
     let measured = then c.put_signed-measured.ensures c.put_number.ensures in
     let counted = then c.put_number-counted.ensures measured in
     let sized = then c.put_number-sized.ensures counted in

@@ -14,5 +14,4 @@ returns-in-Accepted c =
 pub returns-in-Refused : goal.returns-in-Refused
 returns-in-Refused c =
     let a = c.args in
-    let v = c.verdict-1.given in
-    from_start 32768 (spelled (listing-refused a.verdict a.size a.directory v.0.0 v.1) c.put_refusal.ensures) (omega arith) c.requires.0
+    from_start 32768 (spelled (listing-refused a.verdict a.size a.directory _ c.in-Refused.is) c.put_refusal.ensures) (omega arith) c.requires.0
