@@ -1,6 +1,7 @@
 -- `times::texts::month_of_name` meets its contract.
 -- Assumes nothing.
 use mathlib.Core.Path.{sym, ap}
+use borrow.Author.Rules.{rules}
 use Rattle.layout.specs.Bytes.{byte_at}
 use Rattle.layout.specs.Search.{find}
 use Rattle.times.specs.Times.{month_names, month_name}
@@ -57,4 +58,4 @@ unfolding month_numbered is_numbered name_number month_name month_names byte_at 
 returns-in-4408644 c = sym (ap month_numbered c.in-4408644.is)
 
 pub returns-in_default : goal.returns-in_default
-returns-in_default c = no_number c.args.name (twelve c.args.name c.in_default.in_default-own.rest.0.0.0.0.0.0.0.0.0.0.0.1 c.in_default.in_default-own.rest.0.0.0.0.0.0.0.0.0.0.1 c.in_default.in_default-own.rest.0.0.0.0.0.0.0.0.0.1 c.in_default.in_default-own.rest.0.0.0.0.0.0.0.0.1 c.in_default.in_default-own.rest.0.0.0.0.0.0.0.1 c.in_default.in_default-own.rest.0.0.0.0.0.0.1 c.in_default.in_default-own.rest.0.0.0.0.0.1 c.in_default.in_default-own.rest.0.0.0.0.1 c.in_default.in_default-own.rest.0.0.0.1 c.in_default.in_default-own.rest.0.0.1 c.in_default.in_default-own.rest.0.1 c.in_default.in_default-own.rest.1)
+returns-in_default c = let n = c.in_default in no_number c.args.name (search (rules, twelve))

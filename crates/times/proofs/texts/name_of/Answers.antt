@@ -1,7 +1,8 @@
 -- `times::texts::name_of` meets its contract.
 -- Assumes nothing.
-use mathlib.Core.Path.{sym}
+use mathlib.Core.Path.{◌≡◌, sym}
 use native.Mathlib.Omega.{arith}
+use borrow.Author.Rules.{rules}
 use Rattle.times.proofs.Months.{named-number, last_month}
 use Rattle.times.proofs.texts.name_of.Goals as goal
 
@@ -40,4 +41,5 @@ returns-in-11 c = sym (named-number c.args.month 11 c.in-11.is (omega arith) (om
 
 pub returns-in_default : goal.returns-in_default
 returns-in_default c =
-    sym (named-number c.args.month 12 (last_month c.args.month c.requires.0 c.requires.1 c.in_default.in_default-own.rest.0.0.0.0.0.0.0.0.0.0.1 c.in_default.in_default-own.rest.0.0.0.0.0.0.0.0.0.1 c.in_default.in_default-own.rest.0.0.0.0.0.0.0.0.1 c.in_default.in_default-own.rest.0.0.0.0.0.0.0.1 c.in_default.in_default-own.rest.0.0.0.0.0.0.1 c.in_default.in_default-own.rest.0.0.0.0.0.1 c.in_default.in_default-own.rest.0.0.0.0.1 c.in_default.in_default-own.rest.0.0.0.1 c.in_default.in_default-own.rest.0.0.1 c.in_default.in_default-own.rest.0.1 c.in_default.in_default-own.rest.1) (omega arith) (omega arith))
+    let m : c.args.month ≡ 12 = search (rules, last_month) in
+    sym (named-number c.args.month 12 m (omega arith) (omega arith))
