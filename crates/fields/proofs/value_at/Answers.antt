@@ -1,10 +1,11 @@
 -- `fields::value_at` meets its contract, by the kinds that are read in one way. Assumes nothing.
-use mathlib.Core.Path.{ap, ◌∙◌}
+use mathlib.Core.Path.{◌≡◌, ap, ◌∙◌}
+use Prim.Native.Nat.{◌≤◌}
 use native.Mathlib.Omega.{arith}
-use borrow.Author.Rules.{sfits_of}
+use borrow.Author.Rules.{rules, sfits_of}
 use mir.Syntax.{w64}
 use mir.Facts.{to_z-of_z}
-use Rattle.layout.specs.Fields.{integer, time, bytes_of, value_at}
+use Rattle.layout.specs.Fields.{integer, time, mjd, shape_of, bytes_of, value_at}
 use Rattle.layout.specs.Answers.{field_is, time_at}
 use Rattle.layout.specs.declared.Time.{Time}
 use Rattle.fields.proofs.Shapes.{signed-kind, unsigned-kind, float-kind, long_float-kind, time-kind}
@@ -37,8 +38,9 @@ double_at-requires c =
 pub time_at-requires : goal.time_at-requires
 unfolding bytes_of
 time_at-requires c =
-    let n = c.in_default.in_default-own.rest in
-    let w = c.requires.0 ∙ ap bytes_of (time-kind c.args.kind (rw c.requires.0 at c.requires.1) n.0.0.0.1 n.0.0.1 n.0.1 n.1) in
+    let one : 1 ≤ bytes_of (shape_of c.args.kind) = omega (arith, c.requires.0) in
+    let k : shape_of c.args.kind ≡ mjd = search (rules, time-kind) in
+    let w = c.requires.0 ∙ ap bytes_of k in
     omega (arith, c.requires.2)
 
 pub returns-in-1 : goal.returns-in-1
@@ -62,5 +64,6 @@ returns-in-8 c = rw (long_float-kind c.args.kind c.in-8.is) c.double_at.ensures
 pub returns-in_default : goal.returns-in_default
 unfolding value_at field_is time_at
 returns-in_default c =
-    let n = c.in_default.in_default-own.rest in
-    rw (time-kind c.args.kind (rw c.requires.0 at c.requires.1) n.0.0.0.1 n.0.0.1 n.0.1 n.1) (ap (λ (t : Time). time t.days t.seconds t.microseconds) c.time_at.ensures)
+    let one : 1 ≤ bytes_of (shape_of c.args.kind) = omega (arith, c.requires.0) in
+    let k : shape_of c.args.kind ≡ mjd = search (rules, time-kind) in
+    rw k (ap (λ (t : Time). time t.days t.seconds t.microseconds) c.time_at.ensures)
