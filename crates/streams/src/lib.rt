@@ -79,3 +79,51 @@ pub fn say_failed<D: Display + Drop>(
     };
     eprintln!(rt; "{what}: {reason}")
 }
+
+#[cfg(test)]
+mod tests {
+    use super::*;
+
+    // Gives one byte, and then an error.
+    #[derive(Drop)]
+    struct Broken {
+        is_begun: bool,
+    }
+
+    impl Read for Broken {
+        fn read(&mut self, buf: &mut [u8]) -> io::Result<usize> {
+            if self.is_begun || buf.is_empty() {
+                return Err(io::Error::from(ErrorKind::ConnectionReset));
+            }
+            self.is_begun = true;
+            buf[0] = b'a';
+            Ok(1)
+        }
+    }
+
+    fn count(arrived: Arrived) -> Option<usize> {
+        match arrived {
+            Arrived::Whole(count) => Some(count),
+            Arrived::Failed(_) => None,
+        }
+    }
+
+    #[test]
+    fn pieces_arrive_in_their_order(rt: HostRuntime) {
+        let mut room = [b'.'; 6];
+        let mut input = b"abc".as_slice().chain(b"de".as_slice());
+        assert_eq!(rt; count(read_whole(&mut input, &mut room)), Some(5));
+        assert_eq!(rt; room, *b"abcde.");
+        let mut longer = b"abc".as_slice().chain(b"defgh".as_slice());
+        assert_eq!(rt; count(read_whole(&mut longer, &mut room)), Some(6));
+        assert_eq!(rt; room, *b"abcdef");
+    }
+
+    #[test]
+    fn what_came_before_a_failed_read_is_no_input(rt: HostRuntime) {
+        let mut room = [0; 4];
+        let mut input = Broken { is_begun: false };
+        assert_eq!(rt; count(read_whole(&mut input, &mut room)), None);
+        assert_eq!(rt; count(read_whole(&mut input, &mut [])), Some(0));
+    }
+}
