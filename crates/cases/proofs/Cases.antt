@@ -1,6 +1,6 @@
 -- Cases A to L of document 01: one table, one statement, by computation. And in the same way states, unequal records, spares and SPH lines.
 -- Assumes nothing.
-use Prim.Native.Nat.{ℕ, ◌-◌}
+use Prim.Native.Nat.{ℕ}
 use mathlib.Core.Bool.{false}
 use mathlib.Core.List.{List, [], ◌∷◌, ◌++◌, map}
 use mathlib.Core.Path.{◌≡◌, refl}

@@ -7,7 +7,7 @@ use mathlib.Core.Path.{◌≡◌, refl, sym, ap, ◌∙◌}
 use native.Mathlib.Omega.{arith}
 use lib.Dec.{ltb}
 use lib.ListN.{length}
-use Rattle.layout.specs.Answer.{Answer, accepted, refused, none, need, refusal}
+use Rattle.layout.specs.Answer.{Answer, accepted, refused, need, refusal}
 use Rattle.layout.specs.Entries.{directory, at}
 use Rattle.layout.specs.States.{states_of}
 use Rattle.layout.specs.Rules.{verdict}

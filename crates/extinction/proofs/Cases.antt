@@ -1,6 +1,6 @@
 -- Computed cases of residual extinction: which directories have the set, and what a record answers of a pixel.
 -- Assumes nothing.
-use Prim.Native.Nat.{ℕ, ◌+◌, ◌-◌, ◌%◌}
+use Prim.Native.Nat.{ℕ, ◌-◌, ◌%◌}
 use Prim.Native.String.{String}
 use mathlib.Core.Bool.{false}
 use mathlib.Core.List.{List, [], ◌∷◌, ◌++◌, map}
@@ -8,7 +8,7 @@ use mathlib.Core.Path.{◌≡◌, refl}
 use lib.ListN.{length, replicate}
 use Rattle.layout.specs.Bytes.{bytes, byte_at, unsigned_at, twos_complement, signed_at}
 use Rattle.layout.specs.Text.{Number, whole}
-use Rattle.layout.specs.Answer.{Answer, accepted, refused, is}
+use Rattle.layout.specs.Answer.{Answer, accepted, refused}
 use Rattle.layout.specs.Search.{count, find, upto}
 use Rattle.layout.specs.Entries.{Entry, at, called}
 use Rattle.extinction.specs.Extinction.{single_at, is_extinction, is_extinction_at, extinction_entry, set_refusal, pixel_of, pixel_refusal}

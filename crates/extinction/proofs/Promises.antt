@@ -1,7 +1,7 @@
 -- Theorems over the call, from its promise alone: whatever results it allows.
 -- Assumes nothing.
 use Prim.Native.Nat.{ℕ, ◌+◌, ◌*◌, ◌≤◌, ◌<◌}
-use mathlib.Core.Bool.{Bool, false, not}
+use mathlib.Core.Bool.{Bool, false}
 use mathlib.Core.List.{List}
 use mathlib.Core.Logic.{◌⊎◌, inl, inr}
 use mathlib.Core.Path.{◌≡◌, refl, sym, ap, ◌∙◌}
@@ -13,7 +13,7 @@ use lib.ListN.{length, get_or}
 use borrow.Author.Tests.{le-leb, le-ltb}
 use Rattle.layout.specs.Bytes.{within}
 use Rattle.layout.specs.Text.{whole}
-use Rattle.layout.specs.Answer.{accepted, refused, none, need, refusal, is, ◌or_else◌, ◌before◌}
+use Rattle.layout.specs.Answer.{accepted, refused, none, need, refusal, is, ◌or_else◌}
 use Rattle.layout.specs.Search.{count}
 use Rattle.layout.specs.Entries.{Entry, eq_z, directory, at, non_empty}
 use Rattle.layout.specs.States.{states_of}

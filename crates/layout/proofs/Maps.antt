@@ -11,7 +11,6 @@ use Rattle.layout.specs.declared.Verdict.{Verdict}
 use Rattle.layout.specs.declared.Verdict.TheVariants as verdict-cases
 use Rattle.layout.specs.declared.Place.{Place}
 use Rattle.layout.specs.declared.Place.TheVariants as place-cases
-use Rattle.layout.specs.declared.Time.{Time}
 use Rattle.layout.specs.declared.Field.{Field}
 use Rattle.layout.specs.declared.Field.TheVariants as field-cases
 use Rattle.layout.specs.declared.FieldAnswer.{FieldAnswer}

@@ -1,7 +1,7 @@
 -- The ranks that a directory answers (order 10): in an accepted product those of the non-empty sets are 0, 1 and so on, each once, all other entries
 -- carry 128, and the sets by rank are file order.
 -- Assumes nothing.
-use Prim.Native.Nat.{ℕ, zero, suc, ◌+◌, ◌≤◌, ◌<◌}
+use Prim.Native.Nat.{ℕ, zero, suc, ◌<◌}
 use mathlib.Core.Bool.{Bool, true, false, cond}
 use mathlib.Core.Logic.{inl, inr}
 use mathlib.Core.List.{List, [], ◌∷◌, map, map-id}

@@ -13,7 +13,7 @@ use borrow.Author.Count.{below_more}
 use borrow.Author.Tests.{lt-ltb, le-ltb, le-leb, lt-leb, eq-eqb, ne_eqb, ltb-true, leb-true, not-true, not-false}
 use Rattle.layout.specs.Answer.{Answer, accepted, refused, need}
 use Rattle.layout.specs.Search.{first, some}
-use Rattle.layout.specs.Entries.{Entry, at, shares}
+use Rattle.layout.specs.Entries.{Entry, shares}
 use Rattle.layout.specs.Rules.{set_inside, rule12_at, shares_at, rule13_at}
 use Rattle.layout.proofs.Laws.{lt-or-le, not-not, leb-not, ltb_same, some_same, some_step, first_same, first_step}
 use Rattle.placement.specs.Sets.{is_inside, overlaps, overlaps_at, largest, Between, Clear, rule12_by, rule13_by, Held, Outside, Overlapping}

@@ -15,7 +15,6 @@ use Rattle.layout.specs.Records.{Span, lengths, record_at, record_length, record
 use Rattle.layout.specs.Fields.{record_of}
 use Rattle.layout.specs.Answers.{place_is, directory_of}
 use Rattle.layout.specs.declared.Refusal.{Refusal}
-use Rattle.layout.specs.declared.Verdict.TheVariants.{Refused}
 use Rattle.layout.specs.declared.Place.{Place}
 use Rattle.layout.specs.declared.Place.TheVariants as places
 use Rattle.layout.proofs.Laws.{or_else_accepts, need-accepts}

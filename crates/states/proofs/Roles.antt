@@ -9,7 +9,7 @@ use lib.Dec.{ltb, eqb}
 use lib.ListN.{get_or}
 use borrow.Author.Tests.{eq-eqb, ne_eqb, lt-ltb, le-ltb, lt-leb, le-leb}
 use Rattle.layout.specs.Answer.{accepted, refused}
-use Rattle.layout.specs.Search.{count, find}
+use Rattle.layout.specs.Search.{find}
 use Rattle.layout.proofs.Laws.{find_bounds}
 use Rattle.directory.specs.declared.Sets.{Sets}
 use Rattle.states.specs.declared.Tally.{Tally}

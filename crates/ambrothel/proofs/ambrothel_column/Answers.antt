@@ -2,7 +2,6 @@
 -- Assumes nothing.
 use native.Mathlib.Omega.{arith}
 use Rattle.ambrothel.proofs.Columns.{column_short, column_written}
-use borrow.Author.Rules.{rules}
 use Rattle.ambrothel.proofs.ambrothel_column.Goals as goal
 
 pub returns-then-words-lt3 : goal.returns-then-words-lt3

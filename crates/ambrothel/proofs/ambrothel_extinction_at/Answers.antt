@@ -6,7 +6,6 @@ use Rattle.extinction_words.specs.PixelWords.{pixel_words, model_double}
 use Rattle.writing.proofs.Puts.{spelled}
 use Rattle.words.proofs.Lent.{first_short, second_short, both_written}
 use Rattle.extinction_words.proofs.Answers.{pixel_eleven, model-one}
-use borrow.Author.Rules.{rules}
 use Rattle.ambrothel.proofs.ambrothel_extinction_at.Goals as goal
 
 pub returns-then-words-lt11 : goal.returns-then-words-lt11

@@ -6,7 +6,6 @@ use Rattle.words.specs.Words.{field_words}
 use Rattle.writing.proofs.Puts.{spelled}
 use Rattle.words.proofs.Lent.{one_short, one_written}
 use Rattle.words.proofs.Lengths.{field_seven}
-use borrow.Author.Rules.{rules}
 use Rattle.ambrothel.proofs.ambrothel_field_at.Goals as goal
 
 pub returns-then-words-lt7 : goal.returns-then-words-lt7

@@ -1,6 +1,5 @@
 -- `ambrothel::ambrothel_header_values` meets its contract.
 -- Assumes nothing.
-use borrow.Author.Rules.{rules}
 use Rattle.ambrothel.proofs.ambrothel_header_values.Goals as goal
 
 pub returns : goal.returns

@@ -6,7 +6,6 @@ use Rattle.words.specs.Words.{verdict_words}
 use Rattle.writing.proofs.Puts.{spelled}
 use Rattle.words.proofs.Lent.{one_short, one_written}
 use Rattle.words.proofs.Lengths.{verdict_three}
-use borrow.Author.Rules.{rules}
 use Rattle.ambrothel.proofs.ambrothel_judge.Goals as goal
 
 pub returns-then-words-lt3 : goal.returns-then-words-lt3

@@ -6,8 +6,7 @@ use Rattle.layout.specs.Answers.{verdict_is}
 use Rattle.layout.proofs.Replies.{told-refused}
 use Rattle.writing.proofs.Puts.{same_room}
 use Rattle.words.proofs.Lent.{first_short, second_short}
-use Rattle.ambrothel.proofs.Rooms.{words_long, texts_long, Held, opened_held, all_put}
-use borrow.Author.Rules.{rules}
+use Rattle.ambrothel.proofs.Rooms.{words_long, texts_long, opened_held, all_put}
 use Rattle.ambrothel.proofs.ambrothel_open_directory.Goals as goal
 
 pub returns-then-words-lt772 : goal.returns-then-words-lt772

@@ -6,7 +6,6 @@ use Rattle.words.specs.Words.{point_words, point_doubles}
 use Rattle.writing.proofs.Puts.{spelled}
 use Rattle.words.proofs.Lent.{first_short, second_short, both_written}
 use Rattle.words.proofs.Lengths.{point_three, doubles_three}
-use borrow.Author.Rules.{rules}
 use Rattle.ambrothel.proofs.ambrothel_point_at.Goals as goal
 
 pub returns-then-words-lt3 : goal.returns-then-words-lt3

@@ -6,7 +6,6 @@ use Rattle.words.specs.Words.{place_words}
 use Rattle.writing.proofs.Puts.{spelled}
 use Rattle.words.proofs.Lent.{one_short, one_written}
 use Rattle.words.proofs.Lengths.{place_five}
-use borrow.Author.Rules.{rules}
 use Rattle.ambrothel.proofs.ambrothel_record_place.Goals as goal
 
 pub returns-then-words-lt5 : goal.returns-then-words-lt5

@@ -1,6 +1,5 @@
 -- `ambrothel::ambrothel_sph_part` meets its contract.
 -- Assumes nothing.
-use borrow.Author.Rules.{rules}
 use Rattle.ambrothel.proofs.ambrothel_sph_part.Goals as goal
 
 pub returns : goal.returns

@@ -1,6 +1,5 @@
 -- `ambrothel::ambrothel_text_of_time` meets its contract.
 -- Assumes nothing.
-use borrow.Author.Rules.{rules}
 use Rattle.times.proofs.Answers.{time-kept}
 use Rattle.time_words.proofs.Answers.{text-rooms}
 use Rattle.ambrothel.proofs.ambrothel_text_of_time.Goals as goal

@@ -6,7 +6,6 @@ use Rattle.time_words.specs.TimeWords.{time_words}
 use Rattle.writing.proofs.Puts.{spelled}
 use Rattle.words.proofs.Lent.{one_short, one_written}
 use Rattle.time_words.proofs.Answers.{time_seven}
-use borrow.Author.Rules.{rules}
 use Rattle.ambrothel.proofs.ambrothel_time_of_text.Goals as goal
 
 pub returns-then-words-lt7 : goal.returns-then-words-lt7

@@ -1,7 +1,6 @@
 -- `calendar::date_after` meets its contract.
 -- Assumes nothing.
 use native.Mathlib.Omega.{arith}
-use borrow.Author.Rules.{rules}
 use Rattle.calendar.proofs.Dates.{date-after}
 use Rattle.calendar.proofs.date_after.Goals as goal
 

@@ -1,7 +1,6 @@
 -- `calendar::days_of_even_months` meets its contract.
 -- Assumes nothing.
 use native.Mathlib.Omega.{arith}
-use borrow.Author.Rules.{rules}
 use Rattle.calendar.proofs.Days.{even-days, even_most}
 use Rattle.calendar.proofs.days_of_even_months.Goals as goal
 

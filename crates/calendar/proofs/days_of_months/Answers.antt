@@ -1,6 +1,5 @@
 -- `calendar::days_of_months` meets its contract.
 -- Assumes nothing.
-use borrow.Author.Rules.{rules}
 use Rattle.calendar.proofs.Days.{months-are, months-fit}
 use Rattle.calendar.proofs.days_of_months.Goals as goal
 

@@ -1,7 +1,6 @@
 -- `calendar::is_date` meets its contract.
 -- Assumes nothing.
 use native.Mathlib.Omega.{arith}
-use borrow.Author.Rules.{rules}
 use Rattle.calendar.proofs.Dates.{too_early, too_late, no_month, no_such_month, month_ends, by_day}
 use Rattle.calendar.proofs.is_date.Goals as goal
 

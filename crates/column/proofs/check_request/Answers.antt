@@ -4,7 +4,6 @@ use mathlib.Core.Path.{◌∙◌}
 use native.Mathlib.Omega.{arith}
 use Rattle.layout.specs.Answers.{verdict_is}
 use Rattle.column.proofs.Requests.{no_entry, kind_0, kind-unknown, kind-wide, crossed, too_many, too_short, good_request}
-use borrow.Author.Rules.{rules}
 use Rattle.column.proofs.check_request.Goals as goal
 
 pub returns-then-entries-entry : goal.returns-then-entries-entry

@@ -5,7 +5,6 @@ use lib.ListN.{length}
 use Rattle.layout.proofs.Replies.{told-refused, told-accepted}
 use Rattle.product.proofs.Calls.{now_open}
 use Rattle.column.proofs.Filled.{refused_column, empty_column, own_refusal, request_refused, in_directory, room_enough, request_fits, none-asked, by_the_set, as_replied}
-use borrow.Author.Rules.{rules}
 use Rattle.column.proofs.put_column.Goals as goal
 
 pub open_headers-opened-requires : goal.open_headers-opened-requires

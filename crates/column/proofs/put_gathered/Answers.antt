@@ -2,7 +2,6 @@
 -- Assumes nothing.
 use mathlib.Core.Path.{sym}
 use Rattle.column.proofs.Filled.{gathered_refused, first-long, values_put}
-use borrow.Author.Rules.{rules}
 use Rattle.column.proofs.put_gathered.Goals as goal
 
 pub returns-in-Refused : goal.returns-in-Refused

@@ -1,10 +1,10 @@
 -- `column::put_values` meets its contract. The loop's invariant: the first `i` numbers are stored.
 -- Assumes nothing.
-use Prim.Native.Nat.{◌+◌, ◌-◌, ◌≤◌}
-use mathlib.Core.Path.{◌≡◌, refl, ◌∙◌}
+use Prim.Native.Nat.{◌+◌, ◌≤◌}
+use mathlib.Core.Path.{refl, ◌∙◌}
 use native.Mathlib.Omega.{arith}
-use lib.ListN.{length, take}
-use lib.Seq.{sets, length-sets, take_all}
+use lib.ListN.{length}
+use lib.Seq.{length-sets, take_all}
 use Rattle.field_bits.proofs.Stored.{next_copied}
 use Rattle.column.proofs.put_values.Goals as goal
 

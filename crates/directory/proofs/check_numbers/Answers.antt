@@ -7,7 +7,6 @@ use native.Mathlib.Omega.{arith}
 use lib.Dec.{leb}
 use lib.ListN.{get_or}
 use borrow.Author.Tests.{eq-eqb, ne_eqb}
-use borrow.Author.Rules.{rules}
 use Rattle.layout.specs.Answer.{refused}
 use Rattle.layout.specs.Answers.{verdict_is}
 use Rattle.layout.specs.Entries.{largest_signed}

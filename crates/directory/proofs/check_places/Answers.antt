@@ -9,7 +9,6 @@ use Rattle.layout.specs.Answers.{verdict_is}
 use Rattle.layout.specs.declared.Verdict.TheVariants.{Accepted}
 use Rattle.placement.specs.Cover.{NoneFound}
 use Rattle.directory.specs.Checks.{place_rules, Placed}
-use borrow.Author.Rules.{rules}
 use Rattle.directory.proofs.check_places.Goals as goal
 
 -- the answer where one of the two tests says yes

@@ -7,7 +7,6 @@ use Rattle.layout.proofs.Laws.{first_same}
 use Rattle.directory.proofs.Turns.{eight}
 use Rattle.directory.proofs.Rules.{seven, eight_all}
 use Rattle.directory.specs.Checks.{text_rules}
-use borrow.Author.Rules.{rules}
 use Rattle.directory.proofs.check_text.Goals as goal
 
 pub first_bad_line-bad-requires : goal.first_bad_line-bad-requires

@@ -7,7 +7,6 @@ use Rattle.layout.specs.Answers.{directory_of}
 use Rattle.writing.proofs.Puts.{fills}
 use Rattle.directory.specs.Numbers.{directory_with}
 use Rattle.directory.proofs.Texts.{names-long, filenames-long}
-use borrow.Author.Rules.{rules}
 use Rattle.directory.proofs.directory_from.Goals as goal
 
 pub returns : goal.returns

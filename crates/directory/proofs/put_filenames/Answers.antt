@@ -2,7 +2,6 @@
 -- Assumes nothing.
 use Rattle.writing.proofs.Puts.{spelled}
 use Rattle.directory.proofs.Texts.{filenames-are}
-use borrow.Author.Rules.{rules}
 use Rattle.directory.proofs.put_filenames.Goals as goal
 
 pub returns : goal.returns

@@ -1,11 +1,7 @@
 -- `directory::put_lent` meets its contract.
 -- Assumes nothing.
-use mathlib.Core.Path.{sym}
-use native.Mathlib.Omega.{arith}
-use lib.Seq.{length-take-le}
 use Rattle.writing.proofs.Puts.{at_most, spelled}
 use Rattle.directory.proofs.Texts.{lent_first, part-narrow}
-use borrow.Author.Rules.{rules}
 use Rattle.directory.proofs.put_lent.Goals as goal
 
 pub returns : goal.returns

@@ -2,7 +2,6 @@
 -- Assumes nothing.
 use Rattle.writing.proofs.Puts.{spelled}
 use Rattle.directory.proofs.Texts.{names-are}
-use borrow.Author.Rules.{rules}
 use Rattle.directory.proofs.put_names.Goals as goal
 
 pub returns : goal.returns

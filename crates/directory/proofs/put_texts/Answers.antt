@@ -1,12 +1,9 @@
 -- `directory::put_texts` meets its contract: the texts of the first `i` DSDs are put.
 -- Assumes nothing.
-use Prim.Native.Nat.{◌+◌, ◌*◌, ◌-◌, ◌≤◌}
+use Prim.Native.Nat.{◌+◌, ◌*◌, ◌≤◌}
 use mathlib.Core.Path.{◌≡◌, ◌∙◌}
-use mathlib.Core.List.{map}
 use native.Mathlib.Omega.{arith}
 use lib.ListN.{length}
-use Rattle.layout.specs.Search.{join, upto}
-use Rattle.writing.specs.Put.{Put}
 use Rattle.writing.proofs.Puts.{same_room}
 use Rattle.directory.specs.Texts.{text_at, texts_from}
 use Rattle.directory.proofs.Texts.{none_put, one_put, next-within, next_fits, all_put}

@@ -1,13 +1,8 @@
-use Prim.Native.Nat.{◌+◌, ◌*◌, ◌-◌, ◌≤◌}
-use mathlib.Core.Path.{◌≡◌, ◌∙◌}
+use Prim.Native.Nat.{◌*◌, ◌-◌, ◌≤◌}
 use mathlib.Core.List.{map}
-use native.Mathlib.Omega.{arith}
-use lib.ListN.{length}
 use Rattle.layout.specs.Search.{join, upto}
 use Rattle.writing.specs.Put.{Put}
-use Rattle.writing.proofs.Puts.{same_room}
-use Rattle.directory.specs.Texts.{text_at, texts_from}
-use Rattle.directory.proofs.Texts.{none_put, one_put, next-within, next_fits, all_put}
+use Rattle.directory.specs.Texts.{text_at}
 use Rattle.directory.proofs.put_texts.Given as goal
 
 abbrev pub invariant-loop-i : goal.invariant-loop-i

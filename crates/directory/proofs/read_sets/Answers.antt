@@ -1,19 +1,17 @@
 -- `directory::read_sets` meets its contract: the arrays lent hold the entries read so far, and the counts are those of the entries read so far.
 -- Assumes nothing.
-use Prim.Native.Nat.{◌≤◌, ◌<◌, ◌-◌}
-use mathlib.Core.List.{map}
+use Prim.Native.Nat.{◌<◌}
 use mathlib.Core.Path.{◌≡◌, sym, ap, ◌∙◌}
 use native.Mathlib.Omega.{arith}
 use mir.Syntax.{w64}
 use mir.Facts.{to_z-of_z}
 use lib.IntN.{pos}
 use lib.ListN.{length}
-use borrow.Author.Rules.{rules}
-use Rattle.layout.specs.Search.{find, count, upto}
+use Rattle.layout.specs.Search.{find, count}
 use Rattle.layout.specs.Entries.{entries_from, non_empty_at}
 use Rattle.layout.specs.Rules.{data_sets}
 use Rattle.layout.specs.Text.{whole}
-use Rattle.layout.specs.Answers.{padded, type_of, count_of, record_size_of}
+use Rattle.layout.specs.Answers.{type_of, count_of, record_size_of}
 use Rattle.layout.proofs.Laws.{nothing-counted, count_next}
 use Rattle.layout.proofs.Padded.{none-held, one-held}
 use Rattle.layout.proofs.Sound.{length-entries}

@@ -1,28 +1,13 @@
-use Prim.Native.Nat.{◌≤◌, ◌<◌, ◌-◌}
+use Prim.Native.Nat.{◌≤◌, ◌-◌}
 use mathlib.Core.List.{map}
-use mathlib.Core.Path.{◌≡◌, sym, ap, ◌∙◌}
-use native.Mathlib.Omega.{arith}
-use mir.Syntax.{w64}
-use mir.Facts.{to_z-of_z}
+use mathlib.Core.Path.{◌≡◌}
 use lib.IntN.{pos}
-use lib.ListN.{length}
-use borrow.Author.Rules.{rules}
 use Rattle.layout.specs.Search.{find, count, upto}
 use Rattle.layout.specs.Entries.{entries_from, non_empty_at}
-use Rattle.layout.specs.Rules.{data_sets}
-use Rattle.layout.specs.Text.{whole}
 use Rattle.layout.specs.Answers.{padded, type_of, count_of, record_size_of}
-use Rattle.layout.proofs.Laws.{nothing-counted, count_next}
-use Rattle.layout.proofs.Padded.{none-held, one-held}
-use Rattle.layout.proofs.Sound.{length-entries}
-use Rattle.text.specs.Numbers.{whole_in}
-use Rattle.dsd.specs.Held.{held_of, view_of, role_of}
-use Rattle.dsd.specs.declared.Entry.{Entry as HeldEntry}
 use Rattle.directory.specs.Numbers.{held_start, held_extent, held_role}
 use Rattle.directory.specs.Checks.{over_at, unfit_at}
-use Rattle.directory.specs.declared.Sets.{Sets}
-use Rattle.directory.proofs.Loops.{none_found, row_next}
-use Rattle.directory.proofs.Held.{held-is, over_is, fits-is, counted_is, of_entry, all_held, all_read}
+use Rattle.directory.proofs.Held.{of_entry}
 use Rattle.directory.proofs.read_sets.Given as goal
 
 abbrev pub invariant-loop-i : goal.invariant-loop-i

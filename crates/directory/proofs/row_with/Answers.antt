@@ -1,7 +1,6 @@
 -- `directory::row_with` meets its contract.
 -- Assumes nothing.
 use borrow.Author.Tests.{lt-ltb, le-ltb}
-use borrow.Author.Rules.{rules}
 use Rattle.directory.proofs.row_with.Goals as goal
 
 pub returns-then-row-i : goal.returns-then-row-i

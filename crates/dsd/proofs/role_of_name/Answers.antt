@@ -2,7 +2,6 @@
 -- Assumes nothing.
 use mathlib.Core.Path.{sym, ◌∙◌}
 use Rattle.dsd.specs.Held.{name_role}
-use borrow.Author.Rules.{rules}
 use Rattle.dsd.proofs.role_of_name.Goals as goal
 
 pub returns-then-is_called : goal.returns-then-is_called

@@ -1,12 +1,8 @@
 -- `extinction::first_extinction` meets its contract: what is left of the search from `i` on is the whole search.
 -- Assumes nothing.
-use Prim.Native.Nat.{◌≤◌, ◌-◌}
-use mathlib.Core.Path.{◌≡◌, sym, ◌∙◌}
+use mathlib.Core.Path.{sym, ◌∙◌}
 use native.Mathlib.Omega.{arith}
-use borrow.Author.Rules.{rules}
-use Rattle.layout.specs.Search.{find}
 use Rattle.layout.proofs.Laws.{find_hit, find-next, find_none}
-use Rattle.extinction.specs.Found.{is_extinction_in}
 use Rattle.extinction.proofs.first_extinction.Goals as goal
 
 pub returns-then-is_extinction : goal.returns-then-is_extinction

@@ -1,9 +1,6 @@
 use Prim.Native.Nat.{◌≤◌, ◌-◌}
-use mathlib.Core.Path.{◌≡◌, sym, ◌∙◌}
-use native.Mathlib.Omega.{arith}
-use borrow.Author.Rules.{rules}
+use mathlib.Core.Path.{◌≡◌}
 use Rattle.layout.specs.Search.{find}
-use Rattle.layout.proofs.Laws.{find_hit, find-next, find_none}
 use Rattle.extinction.specs.Found.{is_extinction_in}
 use Rattle.extinction.proofs.first_extinction.Given as goal
 

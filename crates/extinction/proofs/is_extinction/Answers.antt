@@ -1,6 +1,5 @@
 -- `extinction::is_extinction` meets its contract. Assumes nothing.
 use mathlib.Core.Path.{◌∙◌}
-use borrow.Author.Rules.{rules}
 use Rattle.extinction.proofs.Found.{another_type, of_type_M}
 use Rattle.extinction.proofs.is_extinction.Goals as goal
 

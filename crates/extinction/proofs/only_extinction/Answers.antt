@@ -3,7 +3,6 @@
 use mathlib.Core.Path.{sym, ◌∙◌}
 use native.Mathlib.Nat.{sub-zero}
 use native.Mathlib.Omega.{arith}
-use borrow.Author.Rules.{rules}
 use Rattle.layout.proofs.Only.{only-missing, first-inside, only_one, only_doubled}
 use Rattle.extinction.proofs.only_extinction.Goals as goal
 

@@ -4,7 +4,6 @@ use mathlib.Core.Path.{◌∙◌}
 use Rattle.layout.proofs.Replies.{told-refused, told-accepted}
 use Rattle.extinction.specs.Extinction.{pixel_answer_is}
 use Rattle.extinction.proofs.Calls.{refused-product, few-entries, no_set, handed_out, no_record, reads}
-use borrow.Author.Rules.{rules}
 use Rattle.extinction.proofs.pixel_at.Goals as goal
 
 pub returns-in-Refused : goal.returns-in-Refused

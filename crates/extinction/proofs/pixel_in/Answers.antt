@@ -4,7 +4,6 @@ use native.Mathlib.Omega.{arith}
 use mir.Syntax.{w8}
 use mir.Val.{to_z, of_z}
 use mir.Facts.{to_z-of_z}
-use borrow.Author.Rules.{rules}
 use Rattle.layout.specs.Answer.{is}
 use Rattle.extinction.specs.declared.Pixel.{Pixel}
 use Rattle.extinction.specs.Extinction.{pixel_of, pixel_answer_is}

@@ -1,6 +1,5 @@
 -- `extinction::single_at` meets its contract. Assumes nothing.
 use mathlib.Core.Path.{ap, ◌∙◌}
-use borrow.Author.Rules.{rules}
 use lib.Ieee.{binary32, of_bits}
 use Rattle.extinction.specs.Extinction.{single_at}
 use Rattle.extinction.proofs.single_at.Goals as goal

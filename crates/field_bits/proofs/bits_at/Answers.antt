@@ -4,7 +4,6 @@ use mathlib.Core.Path.{sym, ◌∙◌}
 use native.Mathlib.Omega.{arith}
 use Rattle.layout.specs.Fields.{shape_of, bytes_of}
 use Rattle.field_bits.proofs.Complement.{bits_1, bits_2, bits_3, bits_4, bits_four, as_wide, four_wide, above_4}
-use borrow.Author.Rules.{rules}
 use Rattle.field_bits.proofs.bits_at.Goals as goal
 
 pub unsigned-requires : goal.unsigned-requires

@@ -2,7 +2,6 @@
 -- Assumes nothing.
 use native.Mathlib.Omega.{arith}
 use Rattle.field_bits.proofs.Complement.{plain, minus}
-use borrow.Author.Rules.{rules}
 use Rattle.field_bits.proofs.extended.Goals as goal
 
 pub returns-then-v-half : goal.returns-then-v-half

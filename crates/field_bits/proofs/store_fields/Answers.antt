@@ -1,11 +1,9 @@
 -- `field_bits::store_fields` meets its contract. The loop's invariant: the fields of the first `k` records are stored.
 -- Assumes nothing.
-use Prim.Native.Nat.{◌+◌, ◌*◌, ◌-◌, ◌≤◌}
-use mathlib.Core.List.{map}
+use Prim.Native.Nat.{◌+◌, ◌*◌, ◌≤◌}
 use mathlib.Core.Path.{◌≡◌, refl, ◌∙◌}
 use native.Mathlib.Omega.{arith}
-use lib.Seq.{sets, length-sets}
-use Rattle.layout.specs.Search.{upto}
+use lib.Seq.{length-sets}
 use Rattle.writing.proofs.Puts.{lent_part, lent_length}
 use Rattle.field_bits.specs.Bits.{field_bits}
 use Rattle.field_bits.proofs.Stored.{turn_inside, next-stored}

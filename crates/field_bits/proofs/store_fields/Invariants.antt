@@ -1,12 +1,9 @@
-use Prim.Native.Nat.{◌+◌, ◌*◌, ◌-◌, ◌≤◌}
+use Prim.Native.Nat.{◌-◌, ◌≤◌}
 use mathlib.Core.List.{map}
-use mathlib.Core.Path.{◌≡◌, refl, ◌∙◌}
-use native.Mathlib.Omega.{arith}
-use lib.Seq.{sets, length-sets}
+use mathlib.Core.Path.{◌≡◌}
+use lib.Seq.{sets}
 use Rattle.layout.specs.Search.{upto}
-use Rattle.writing.proofs.Puts.{lent_part, lent_length}
 use Rattle.field_bits.specs.Bits.{field_bits}
-use Rattle.field_bits.proofs.Stored.{turn_inside, next-stored}
 use Rattle.field_bits.proofs.store_fields.Given as goal
 
 abbrev pub invariant-loop-k : goal.invariant-loop-k

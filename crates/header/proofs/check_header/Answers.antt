@@ -1,6 +1,5 @@
 -- `header::check_header` meets its contract: the first group that refuses decides, and rule 6 comes last.
 -- Assumes nothing.
-use borrow.Author.Rules.{rules}
 use Rattle.layout.proofs.Replies.{told-accepted}
 use Rattle.header.proofs.Rules.{alone-told, by_length, by_layout, by_total, by_sizes, length-good}
 use Rattle.header.proofs.check_header.Goals as goal

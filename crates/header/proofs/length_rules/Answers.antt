@@ -2,7 +2,6 @@
 -- Assumes nothing.
 use mathlib.Core.Path.{◌∙◌}
 use borrow.Author.Tests.{le-leb, lt-leb}
-use borrow.Author.Rules.{rules}
 use Rattle.layout.specs.Rules.{rule1, rule2}
 use Rattle.layout.specs.Answers.{verdict_is}
 use Rattle.header.specs.Checks.{length_rules}

@@ -4,8 +4,6 @@ use Prim.Native.Nat.{ℕ, ◌+◌, ◌<◌}
 use mathlib.Core.Path.{sym, ap, ◌∙◌}
 use native.Mathlib.Omega.{arith}
 use lib.ListN.{get_or}
-use borrow.Author.Tests.{not-true, not-false}
-use borrow.Author.Rules.{rules}
 use Rattle.layout.specs.Answers.{verdict_is}
 use Rattle.values.proofs.Places.{headers_end-at, entries_at}
 use Rattle.header.proofs.Rules.{word_same, word-other, ten-held, sph_tested, dsds_tested, sph_refused, dsds_refused, dsd-size-refused, sizes-good, sph_most, alone-refused, headers-fit}

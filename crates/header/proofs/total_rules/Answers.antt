@@ -3,7 +3,6 @@
 use Prim.Native.Nat.{◌≤◌, ◌<◌}
 use mathlib.Core.Path.{sym, ap, ◌∙◌}
 use native.Mathlib.Omega.{arith}
-use borrow.Author.Rules.{rules}
 use Rattle.layout.specs.Answers.{verdict_is}
 use Rattle.text.specs.Numbers.{number_in, whole_in}
 use Rattle.text.specs.declared.Number.{Number}

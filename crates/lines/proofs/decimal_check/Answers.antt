@@ -1,7 +1,6 @@
 -- `lines::decimal_check` meets its contract: the sign and the first digits, the point, the span of decimals.
 -- Assumes nothing.
 use mathlib.Core.Path.{◌∙◌}
-use borrow.Author.Rules.{rules}
 use Rattle.layout.specs.Text.{digit}
 use Rattle.lines.proofs.Spans.{run_bad}
 use Rattle.lines.proofs.Values.{decimal-bad, decimal_point, decimal-good}

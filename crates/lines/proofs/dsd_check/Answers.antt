@@ -1,6 +1,5 @@
 -- `lines::dsd_check` meets its contract: a spare, or the lines of a DSD.
 -- Assumes nothing.
-use borrow.Author.Rules.{rules}
 use Rattle.layout.specs.Lines.{spare_dsd}
 use Rattle.layout.specs.Text.{layout, line_classes}
 use Rattle.lines.proofs.Headers.{bad-spare, bad-dsd}

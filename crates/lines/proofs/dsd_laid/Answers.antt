@@ -3,8 +3,6 @@
 use mathlib.Core.Bool.{false≢true}
 use mathlib.Core.Path.{sym, ◌∙◌}
 use native.Mathlib.Omega.{arith}
-use borrow.Author.Rules.{rules}
-use borrow.Author.Tests.{not-false}
 use Rattle.lines.proofs.Ranges.{stand, stand_on, dsd-laid}
 use Rattle.lines.proofs.dsd_laid.Goals as goal
 

@@ -2,7 +2,6 @@
 -- Assumes nothing.
 use mathlib.Core.Path.{refl}
 use native.Mathlib.Omega.{arith}
-use borrow.Author.Rules.{rules}
 use Rattle.layout.specs.Bytes.{part}
 use Rattle.layout.specs.Text.{layout, line_classes, value_classes, value_width, starts_of}
 use Rattle.layout.specs.Lines.{dsd}

@@ -1,18 +1,15 @@
 -- `lines::dsds_check` meets its contract: what is left of the search from `i` on is the whole search. That the ranges are as strict as the layout is computed
 -- once, over the whole table.
 -- Assumes nothing.
-use Prim.Native.Nat.{◌-◌, ◌≤◌}
-use mathlib.Core.Path.{◌≡◌, refl, sym, ◌∙◌}
+use mathlib.Core.Path.{refl, sym, ◌∙◌}
 use native.Mathlib.Omega.{arith}
 use native.Mathlib.Nat.{sub-zero}
-use borrow.Author.Rules.{rules}
 use borrow.Author.Tests.{eq-eqb, ne_eqb}
 use Rattle.layout.specs.Answers.{verdict_is}
 use Rattle.layout.specs.Lines.{dsd}
 use Rattle.layout.specs.Search.{first}
 use Rattle.layout.specs.Text.{layout, line_classes, value_classes, quote_width, place_of}
 use Rattle.lines.specs.Ranges.{narrow, strict, strict_but}
-use Rattle.lines.specs.Table.{rule8_from}
 use Rattle.lines.proofs.Headers.{dsd-answer, left-refused, left-next, left_end}
 use Rattle.lines.proofs.dsds_check.Goals as goal
 

@@ -1,13 +1,7 @@
 -- `lines::laid_in` meets its contract: the bytes so far, tested as a whole.
 -- Assumes nothing.
-use Prim.Native.Nat.{◌≤◌, ◌-◌}
-use mathlib.Core.Bool.{not}
-use mathlib.Core.Path.{◌≡◌}
 use native.Mathlib.Omega.{arith}
-use borrow.Author.Rules.{rules}
-use Rattle.layout.specs.Search.{some}
 use Rattle.text.proofs.Runs.{all_none, all_end}
-use Rattle.lines.specs.Ranges.{misplaced}
 use Rattle.lines.proofs.Ranges.{byte_test, one_more}
 use Rattle.lines.proofs.laid_in.Goals as goal
 

@@ -1,10 +1,8 @@
 -- `lines::lines_check` meets its contract: what is left of the rows from `i` on, with what no value took, decides the whole table.
 -- Assumes nothing.
-use Prim.Native.Nat.{◌≤◌, ◌-◌}
 use native.Mathlib.Omega.{arith}
-use lib.ListN.{length}
-use Rattle.lines.specs.Table.{row_of, table_laid, bad_by_table}
-use Rattle.lines.proofs.Rows.{fitting, table, Turn, turn_start, turn_inside, turn_fits, turn_bad, turn_good, turn_end}
+use Rattle.lines.specs.Table.{table_laid, bad_by_table}
+use Rattle.lines.proofs.Rows.{fitting, table, turn_start, turn_inside, turn_fits, turn_bad, turn_good, turn_end}
 use Rattle.lines.proofs.lines_check.Goals as goal
 
 pub loop-i-init : goal.loop-i-init

@@ -1,8 +1,7 @@
 use Prim.Native.Nat.{◌≤◌, ◌-◌}
-use native.Mathlib.Omega.{arith}
 use lib.ListN.{length}
-use Rattle.lines.specs.Table.{row_of, table_laid, bad_by_table}
-use Rattle.lines.proofs.Rows.{fitting, table, Turn, turn_start, turn_inside, turn_fits, turn_bad, turn_good, turn_end}
+use Rattle.lines.specs.Table.{row_of}
+use Rattle.lines.proofs.Rows.{Turn}
 use Rattle.lines.proofs.lines_check.Given as goal
 
 abbrev pub invariant-loop-i : goal.invariant-loop-i

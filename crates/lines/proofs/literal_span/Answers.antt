@@ -1,11 +1,7 @@
 -- `lines::literal_span` meets its contract: what is left of the span from `i` on decides the whole.
 -- Assumes nothing.
-use Prim.Native.Nat.{◌≤◌, ◌-◌}
-use mathlib.Core.Path.{◌≡◌, refl, sym, ◌∙◌}
+use mathlib.Core.Path.{refl, sym, ◌∙◌}
 use native.Mathlib.Omega.{arith}
-use Rattle.layout.specs.Bytes.{part}
-use Rattle.layout.specs.Text.{literal}
-use Rattle.lines.specs.Table.{bad_place}
 use Rattle.lines.proofs.Spans.{span_bad, span_good, span_end}
 use Rattle.lines.proofs.literal_span.Goals as goal
 

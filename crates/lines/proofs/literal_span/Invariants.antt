@@ -1,10 +1,8 @@
 use Prim.Native.Nat.{◌≤◌, ◌-◌}
-use mathlib.Core.Path.{◌≡◌, refl, sym, ◌∙◌}
-use native.Mathlib.Omega.{arith}
+use mathlib.Core.Path.{◌≡◌}
 use Rattle.layout.specs.Bytes.{part}
 use Rattle.layout.specs.Text.{literal}
 use Rattle.lines.specs.Table.{bad_place}
-use Rattle.lines.proofs.Spans.{span_bad, span_good, span_end}
 use Rattle.lines.proofs.literal_span.Given as goal
 
 abbrev pub invariant-loop-i : goal.invariant-loop-i

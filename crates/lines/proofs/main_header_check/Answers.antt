@@ -1,7 +1,6 @@
 -- `lines::main_header_check` meets its contract.
 -- Assumes nothing.
 use mathlib.Core.Path.{refl}
-use borrow.Author.Rules.{rules}
 use Rattle.layout.specs.Text.{layout, line_classes, value_classes}
 use Rattle.layout.specs.Lines.{size_of_mph, mph}
 use Rattle.lines.proofs.Headers.{header_answer}

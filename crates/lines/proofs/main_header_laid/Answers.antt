@@ -3,8 +3,6 @@
 -- Assumes nothing.
 use mathlib.Core.Bool.{false≢true}
 use native.Mathlib.Omega.{arith}
-use borrow.Author.Rules.{rules}
-use borrow.Author.Tests.{not-false}
 use Rattle.layout.specs.Text.{layout, line_classes, value_classes}
 use Rattle.layout.specs.Lines.{mph}
 use Rattle.lines.specs.Ranges.{narrow, strict}

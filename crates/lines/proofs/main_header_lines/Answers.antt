@@ -1,7 +1,6 @@
 -- `lines::main_header_lines` meets its contract: the rule of the main header's table is computed once, over the whole table.
 -- Assumes nothing.
 use mathlib.Core.Path.{refl}
-use borrow.Author.Rules.{rules}
 use Rattle.layout.specs.Bytes.{part}
 use Rattle.layout.specs.Text.{layout, line_classes, value_classes, value_width, starts_of}
 use Rattle.layout.specs.Lines.{mph}

@@ -1,7 +1,6 @@
 -- `lines::may_stand` meets its contract.
 -- Assumes nothing.
 use mathlib.Core.Path.{refl}
-use borrow.Author.Rules.{rules}
 use Rattle.lines.specs.Ranges.{may_stand}
 use Rattle.lines.proofs.may_stand.Goals as goal
 

@@ -1,7 +1,6 @@
 -- `lines::row_at` meets its contract: each field is its column's element.
 -- Assumes nothing.
 use Prim.Native.Nat.{◌+◌}
-use borrow.Author.Rules.{rules}
 use lib.ListN.{get_or}
 use Rattle.lines.specs.Table.{row_of}
 use Rattle.lines.proofs.row_at.Goals as goal

@@ -1,6 +1,5 @@
 -- `lines::spare_check` meets its contract: the blanks, then byte 10.
 -- Assumes nothing.
-use borrow.Author.Rules.{rules}
 use Rattle.lines.proofs.Values.{spare_blank, spare_ending, spare-whole}
 use Rattle.lines.proofs.spare_check.Goals as goal
 

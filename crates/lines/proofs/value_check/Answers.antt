@@ -3,7 +3,6 @@
 use Prim.Native.Nat.{◌-◌}
 use mathlib.Core.Path.{sym, ◌∙◌}
 use native.Mathlib.Omega.{arith}
-use borrow.Author.Rules.{rules}
 use Rattle.layout.specs.Text.{plain}
 use Rattle.lines.proofs.Spans.{run_bad, blanks-bad}
 use Rattle.lines.proofs.Values.{text-laid, blanks-laid, flag-laid, type-laid, whole-laid, thousandths_laid, millionths_laid, flag_width, type_width, whole_width, thousandths_width, millionths_width, one-good, one-bad, whole_by_end, decimal_by_end}

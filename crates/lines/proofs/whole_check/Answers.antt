@@ -1,8 +1,6 @@
 -- `lines::whole_check` meets its contract: the sign, then the span of digits.
 -- Assumes nothing.
 use mathlib.Core.Path.{sym, ◌∙◌}
-use borrow.Author.Rules.{rules}
-use borrow.Author.Tests.{not-true, not-false}
 use Rattle.layout.specs.Text.{digit}
 use Rattle.lines.proofs.Spans.{run_bad}
 use Rattle.lines.proofs.Values.{whole-bad, whole-good}

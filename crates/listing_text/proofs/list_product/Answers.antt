@@ -2,7 +2,6 @@
 -- Assumes nothing.
 use native.Mathlib.Omega.{arith}
 use Rattle.listing_text.proofs.Whole.{longer, listed, few-entries}
-use borrow.Author.Rules.{rules}
 use Rattle.listing_text.proofs.list_product.Goals as goal
 
 pub returns-then-p-gt65536 : goal.returns-then-p-gt65536

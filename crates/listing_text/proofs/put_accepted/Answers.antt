@@ -1,6 +1,5 @@
 -- `listing_text::put_accepted` meets its contract: the four puts make the listing.
 -- Assumes nothing.
-use borrow.Author.Rules.{rules}
 use Rattle.writing.proofs.Puts.{then, spelled}
 use Rattle.listing_text.proofs.Lines.{accepted-lines}
 use Rattle.listing_text.proofs.put_accepted.Goals as goal

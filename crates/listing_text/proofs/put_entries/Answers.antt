@@ -1,6 +1,6 @@
 -- `listing_text::put_entries` meets its contract. The loop's invariant: the lines of the first `i` entries are put, each of at most 164 bytes.
 -- Assumes nothing.
-use Prim.Native.Nat.{◌+◌, ◌*◌, ◌-◌, ◌≤◌}
+use Prim.Native.Nat.{◌+◌, ◌*◌}
 use mathlib.Core.Path.{◌≡◌, sym, ap}
 use native.Mathlib.Omega.{arith}
 use lib.ListN.{get_or, length}
@@ -10,7 +10,6 @@ use borrow.Author.Rules.{rules}
 use mir.Syntax.{w64}
 use mir.Val.{to_z, of_z}
 use mir.Facts.{to_z-of_z}
-use Rattle.writing.specs.Put.{Put}
 use Rattle.listing_text.specs.Listing.{entry_texts}
 use Rattle.writing.proofs.Puts.{then, at_most, spelled, nothing}
 use Rattle.listing_text.proofs.Lines.{texts_none, texts_more, read-line}

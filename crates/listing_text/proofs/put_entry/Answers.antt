@@ -1,7 +1,6 @@
 -- `listing_text::put_entry` meets its contract, for a spare and for any other entry.
 -- Assumes nothing.
 use native.Mathlib.Omega.{arith}
-use borrow.Author.Rules.{rules}
 use Rattle.writing.proofs.Puts.{then, at_most, spelled}
 use Rattle.listing_text.proofs.EntryLine.{spare-line, named-line}
 use Rattle.listing_text.proofs.put_entry.Goals as goal

@@ -1,6 +1,5 @@
 -- `listing_text::put_name` meets its contract: what is lent of the name is the name without its trailing blanks.
 -- Assumes nothing.
-use borrow.Author.Rules.{rules}
 use Rattle.listing_text.proofs.Names.{name_lent, name_short}
 use Rattle.writing.proofs.Puts.{then, at_most, spelled}
 use Rattle.listing_text.proofs.put_name.Goals as goal

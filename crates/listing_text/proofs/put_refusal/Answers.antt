@@ -1,6 +1,5 @@
 -- `listing_text::put_refusal` meets its contract: the four puts make the line.
 -- Assumes nothing.
-use borrow.Author.Rules.{rules}
 use Rattle.writing.proofs.Puts.{then, spelled}
 use Rattle.listing_text.proofs.Lines.{refusal-line}
 use Rattle.listing_text.proofs.put_refusal.Goals as goal

@@ -1,6 +1,5 @@
 -- `listing_text::put_values` meets its contract: the four puts make the rest of the line.
 -- Assumes nothing.
-use borrow.Author.Rules.{rules}
 use Rattle.writing.proofs.Puts.{then, spelled}
 use Rattle.listing_text.proofs.EntryLine.{values_line}
 use Rattle.listing_text.proofs.put_values.Goals as goal

@@ -1,7 +1,6 @@
 -- `listing_text::write_listing` meets its contract, by the cases of the verdict.
 -- Assumes nothing.
 use native.Mathlib.Omega.{arith}
-use borrow.Author.Rules.{rules}
 use Rattle.writing.proofs.Puts.{from_start, spelled}
 use Rattle.listing_text.proofs.Lines.{listing-accepted, listing-refused}
 use Rattle.listing_text.proofs.write_listing.Goals as goal

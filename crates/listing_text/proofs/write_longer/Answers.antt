@@ -1,7 +1,6 @@
 -- `listing_text::write_longer` meets its contract: one put from the first byte on.
 -- Assumes nothing.
 use native.Mathlib.Omega.{arith}
-use borrow.Author.Rules.{rules}
 use Rattle.layout.specs.Listing.{line_of}
 use Rattle.listing_text.specs.Listing.{longer_text}
 use Rattle.writing.proofs.Puts.{from_start}

@@ -1,7 +1,6 @@
 -- `octets::double` meets its contract: a NaN's pattern is told by its size. Assumes nothing.
 use lib.Ieee.{binary64}
 use Rattle.octets.proofs.Nan.{made, none}
-use borrow.Author.Rules.{rules}
 use Rattle.octets.proofs.double.Goals as goal
 
 pub float_from_bits-result : goal.float_from_bits-result

@@ -1,7 +1,6 @@
 -- `octets::single` meets its contract: a NaN's pattern is told by its size. Assumes nothing.
 use lib.Ieee.{binary32}
 use Rattle.octets.proofs.Nan.{made, none}
-use borrow.Author.Rules.{rules}
 use Rattle.octets.proofs.single.Goals as goal
 
 pub float_from_bits-result : goal.float_from_bits-result

@@ -1,5 +1,4 @@
 -- `octets::unsigned` meets its contract. The loop's invariant: v is the number that the first i bytes are. Assumes nothing.
-use Prim.Native.Nat.{◌-◌, ◌^◌, ◌≤◌, ◌<◌}
 use mathlib.Core.Path.{◌≡◌, refl, ◌∙◌}
 use native.Mathlib.Omega.{arith}
 use Rattle.layout.specs.Bytes.{byte_at, unsigned_at}

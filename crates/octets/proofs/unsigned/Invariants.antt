@@ -1,8 +1,6 @@
 use Prim.Native.Nat.{◌-◌, ◌^◌, ◌≤◌, ◌<◌}
-use mathlib.Core.Path.{◌≡◌, refl, ◌∙◌}
-use native.Mathlib.Omega.{arith}
-use Rattle.layout.specs.Bytes.{byte_at, unsigned_at}
-use Rattle.octets.proofs.Digits.{next-lt, next-is, room}
+use mathlib.Core.Path.{◌≡◌}
+use Rattle.layout.specs.Bytes.{unsigned_at}
 use Rattle.octets.proofs.unsigned.Given as goal
 
 abbrev pub invariant-loop-i : goal.invariant-loop-i

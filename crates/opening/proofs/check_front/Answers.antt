@@ -1,7 +1,6 @@
 -- `opening::check_front` meets its contract.
 -- Assumes nothing.
 use native.Mathlib.Omega.{arith}
-use borrow.Author.Rules.{rules}
 use Rattle.directory.proofs.Rules.{dsds_of}
 use Rattle.opening.proofs.Opened.{header_refused, headers, text_checked}
 use Rattle.opening.proofs.check_front.Goals as goal

@@ -1,7 +1,6 @@
 -- `opening::check_headers` meets its contract: the first check that refuses decides.
 -- Assumes nothing.
 use native.Mathlib.Omega.{arith}
-use borrow.Author.Rules.{rules}
 use Rattle.directory.proofs.Rules.{dsds_of}
 use Rattle.opening.proofs.Opened.{front_refused, fronted, spares_told, sets_read, sets_checked}
 use Rattle.opening.proofs.check_headers.Goals as goal

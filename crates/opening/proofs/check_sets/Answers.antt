@@ -1,7 +1,6 @@
 -- `opening::check_sets` meets its contract.
 -- Assumes nothing.
 use native.Mathlib.Omega.{arith}
-use borrow.Author.Rules.{rules}
 use Rattle.directory.proofs.Rules.{dsds_of}
 use Rattle.opening.proofs.Opened.{numbers-refused, places_last}
 use Rattle.opening.proofs.check_sets.Goals as goal

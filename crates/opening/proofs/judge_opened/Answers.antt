@@ -1,6 +1,5 @@
 -- `opening::judge_opened` meets its contract.
 -- Assumes nothing.
-use borrow.Author.Rules.{rules}
 use Rattle.opening.proofs.Opened.{headers-refused, numbers-laid, by_states}
 use Rattle.opening.proofs.judge_opened.Goals as goal
 

@@ -1,8 +1,6 @@
 -- `opening::judge_product` meets its contract: where no set is variable, rules 15 and 16 ask for nothing.
 -- Assumes nothing.
 use mathlib.Core.Path.{sym, ◌∙◌}
-use borrow.Author.Tests.{not-true}
-use borrow.Author.Rules.{rules}
 use Rattle.layout.specs.Answers.{verdict_is}
 use Rattle.opening.proofs.Opened.{headers-are, headers-refused, numbers-laid, by_states, not_variable}
 use Rattle.opening.proofs.judge_product.Goals as goal

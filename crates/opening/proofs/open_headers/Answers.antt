@@ -1,7 +1,6 @@
 -- `opening::open_headers` meets its contract: the numbers are those that were read.
 -- Assumes nothing.
 use native.Mathlib.Omega.{arith}
-use borrow.Author.Rules.{rules}
 use Rattle.opening.proofs.Opened.{stops, headers-are, opens}
 use Rattle.opening.proofs.open_headers.Goals as goal
 

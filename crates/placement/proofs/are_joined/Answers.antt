@@ -1,11 +1,8 @@
 -- `placement::are_joined` meets its contract: the sets so far lie as rules 12 to 14 say, from the headers' end to `end`.
 -- Assumes nothing.
-use Prim.Native.Nat.{◌≤◌, ◌-◌}
 use mathlib.Core.Bool.{false≢true}
 use native.Mathlib.Omega.{arith}
-use borrow.Author.Rules.{rules}
-use borrow.Author.Tests.{eqb-true, not-false}
-use Rattle.placement.proofs.Laid.{Laid}
+use borrow.Author.Tests.{eqb-true}
 use Rattle.placement.proofs.Joined.{joined_none, joined_more, joined_all}
 use Rattle.placement.proofs.are_joined.Goals as goal
 

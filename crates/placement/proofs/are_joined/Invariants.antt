@@ -1,10 +1,5 @@
 use Prim.Native.Nat.{◌≤◌, ◌-◌}
-use mathlib.Core.Bool.{false≢true}
-use native.Mathlib.Omega.{arith}
-use borrow.Author.Rules.{rules}
-use borrow.Author.Tests.{eqb-true, not-false}
 use Rattle.placement.proofs.Laid.{Laid}
-use Rattle.placement.proofs.Joined.{joined_none, joined_more, joined_all}
 use Rattle.placement.proofs.are_joined.Given as goal
 
 abbrev pub invariant-loop-i : goal.invariant-loop-i

@@ -1,10 +1,7 @@
 -- `placement::first_holding` meets its contract: what is left of the search from `i` on is the whole search.
 -- Assumes nothing.
-use Prim.Native.Nat.{◌≤◌, ◌-◌}
-use mathlib.Core.Path.{◌≡◌, refl, sym, ◌∙◌}
+use mathlib.Core.Path.{refl, sym, ◌∙◌}
 use native.Mathlib.Omega.{arith}
-use borrow.Author.Rules.{rules}
-use Rattle.layout.specs.Search.{find}
 use Rattle.layout.proofs.Laws.{find_hit, find-next, find_none}
 use Rattle.placement.specs.Cover.{covers_at}
 use Rattle.placement.proofs.first_holding.Goals as goal

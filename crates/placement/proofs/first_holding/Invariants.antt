@@ -1,9 +1,6 @@
 use Prim.Native.Nat.{◌≤◌, ◌-◌}
-use mathlib.Core.Path.{◌≡◌, refl, sym, ◌∙◌}
-use native.Mathlib.Omega.{arith}
-use borrow.Author.Rules.{rules}
+use mathlib.Core.Path.{◌≡◌}
 use Rattle.layout.specs.Search.{find}
-use Rattle.layout.proofs.Laws.{find_hit, find-next, find_none}
 use Rattle.placement.specs.Cover.{covers_at}
 use Rattle.placement.proofs.first_holding.Given as goal
 

@@ -1,11 +1,7 @@
 -- `placement::first_outside` meets its contract: what is left of the search from `i` on is the whole search.
 -- Assumes nothing.
-use Prim.Native.Nat.{◌≤◌, ◌-◌}
-use mathlib.Core.Path.{◌≡◌, refl, sym, ◌∙◌}
+use mathlib.Core.Path.{refl, sym, ◌∙◌}
 use native.Mathlib.Omega.{arith}
-use borrow.Author.Rules.{rules}
-use Rattle.layout.specs.Search.{first}
-use Rattle.placement.specs.Sets.{rule12_by}
 use Rattle.placement.proofs.Sets.{entry_outside, entry_inside, first_hit, first_miss, first-none, outside}
 use Rattle.placement.proofs.first_outside.Goals as goal
 

@@ -1,10 +1,7 @@
 use Prim.Native.Nat.{◌≤◌, ◌-◌}
-use mathlib.Core.Path.{◌≡◌, refl, sym, ◌∙◌}
-use native.Mathlib.Omega.{arith}
-use borrow.Author.Rules.{rules}
+use mathlib.Core.Path.{◌≡◌}
 use Rattle.layout.specs.Search.{first}
 use Rattle.placement.specs.Sets.{rule12_by}
-use Rattle.placement.proofs.Sets.{entry_outside, entry_inside, first_hit, first_miss, first-none, outside}
 use Rattle.placement.proofs.first_outside.Given as goal
 
 abbrev pub invariant-loop-i : goal.invariant-loop-i

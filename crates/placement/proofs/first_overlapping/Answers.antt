@@ -1,16 +1,12 @@
 -- `placement::first_overlapping` meets its contract: what is left of each search, from `i` and from `j` on, is the whole search, and `low` and `high` hold
 -- all lower sets.
 -- Assumes nothing.
-use Prim.Native.Nat.{◌≤◌, ◌-◌}
-use mathlib.Core.Logic.{⊎_elim}
-use mathlib.Core.Path.{◌≡◌, refl, sym, ◌∙◌}
+use mathlib.Core.Path.{refl, sym, ◌∙◌}
 use native.Mathlib.Omega.{arith}
 use native.Mathlib.Nat.{sub-zero}
-use borrow.Author.Rules.{rules}
-use Rattle.layout.specs.Search.{first, some}
 use Rattle.layout.proofs.Laws.{some_end}
-use Rattle.placement.specs.Sets.{overlaps_at, rule13_by}
-use Rattle.placement.proofs.Sets.{Lower, first_hit, first_miss, first-none, some_hit, some_miss, some-none, overlaps_lower, overlaps-none, overlapping, none-shares, one_more}
+use Rattle.placement.specs.Sets.{overlaps_at}
+use Rattle.placement.proofs.Sets.{first_hit, first_miss, first-none, some_hit, some_miss, some-none, overlaps_lower, overlaps-none, overlapping, none-shares, one_more}
 use Rattle.placement.proofs.first_overlapping.Goals as goal
 use Rattle.placement.proofs.first_overlapping.Goals.{then-is_clear, else-is_clear}
 
@@ -33,8 +29,8 @@ pub loop-j-init : goal.loop-j-init
 loop-j-init c =
     let pairs = c.pairs in
     elim c.if-is_clear.branch [
-      then-is_clear w ↦ rw w.j-is (omega arith, none-shares _ _ _ _ _ pairs.invariant.2 (c.is_clear.ensures w.if-is_clear.true) ∙ sym (some_end _ pairs.i))
-    | else-is_clear w ↦ rw w.j-is (omega arith, rw (sub-zero pairs.i))
+      | then-is_clear w ↦ rw w.j-is (omega arith, none-shares _ _ _ _ _ pairs.invariant.2 (c.is_clear.ensures w.if-is_clear.true) ∙ sym (some_end _ pairs.i))
+      | else-is_clear w ↦ rw w.j-is (omega arith, rw (sub-zero pairs.i))
     ]
 
 pub offset_bounds-offsets-i-in-loop-j : goal.offset_bounds-offsets-i-in-loop-j

@@ -1,13 +1,8 @@
 use Prim.Native.Nat.{◌≤◌, ◌-◌}
-use mathlib.Core.Logic.{⊎_elim}
-use mathlib.Core.Path.{◌≡◌, refl, sym, ◌∙◌}
-use native.Mathlib.Omega.{arith}
-use native.Mathlib.Nat.{sub-zero}
-use borrow.Author.Rules.{rules}
+use mathlib.Core.Path.{◌≡◌}
 use Rattle.layout.specs.Search.{first, some}
-use Rattle.layout.proofs.Laws.{some_end}
 use Rattle.placement.specs.Sets.{overlaps_at, rule13_by}
-use Rattle.placement.proofs.Sets.{Lower, first_hit, first_miss, first-none, some_hit, some_miss, some-none, overlaps_lower, overlaps-none, overlapping, none-shares, one_more}
+use Rattle.placement.proofs.Sets.{Lower}
 use Rattle.placement.proofs.first_overlapping.Given as goal
 
 abbrev pub invariant-loop-j : goal.invariant-loop-j

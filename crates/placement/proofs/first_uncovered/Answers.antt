@@ -1,11 +1,7 @@
 -- `placement::first_uncovered` meets its contract: what is left of the search from `p` on is the whole search.
 -- Assumes nothing.
-use Prim.Native.Nat.{◌≤◌, ◌-◌}
-use mathlib.Core.Path.{◌≡◌, refl}
+use mathlib.Core.Path.{refl}
 use native.Mathlib.Omega.{arith}
-use borrow.Author.Rules.{rules}
-use Rattle.layout.specs.Search.{first}
-use Rattle.placement.specs.Cover.{rule14_by}
 use Rattle.placement.proofs.Sets.{first_hit, first-none}
 use Rattle.placement.proofs.Cover.{byte_uncovered, jump, uncovered}
 use Rattle.placement.proofs.first_uncovered.Goals as goal

@@ -1,11 +1,7 @@
 use Prim.Native.Nat.{◌≤◌, ◌-◌}
-use mathlib.Core.Path.{◌≡◌, refl}
-use native.Mathlib.Omega.{arith}
-use borrow.Author.Rules.{rules}
+use mathlib.Core.Path.{◌≡◌}
 use Rattle.layout.specs.Search.{first}
 use Rattle.placement.specs.Cover.{rule14_by}
-use Rattle.placement.proofs.Sets.{first_hit, first-none}
-use Rattle.placement.proofs.Cover.{byte_uncovered, jump, uncovered}
 use Rattle.placement.proofs.first_uncovered.Given as goal
 
 abbrev pub invariant-loop-p : goal.invariant-loop-p

@@ -1,7 +1,6 @@
 -- `placement::is_clear` meets its contract.
 -- Assumes nothing.
 use mathlib.Core.Bool.{false≢true}
-use borrow.Author.Rules.{rules}
 use Rattle.placement.proofs.Sets.{clear_empty, clear_below, clear_above}
 use Rattle.placement.proofs.is_clear.Goals as goal
 

@@ -1,6 +1,5 @@
 -- `placement::one_holding` meets its contract: the two searches leave no entry out.
 -- Assumes nothing.
-use borrow.Author.Rules.{rules}
 use native.Mathlib.Omega.{arith}
 use Rattle.placement.proofs.Cover.{holding_found, holding_none}
 use Rattle.placement.proofs.one_holding.Goals as goal

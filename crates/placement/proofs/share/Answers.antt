@@ -1,6 +1,5 @@
 -- `placement::share` meets its contract.
 -- Assumes nothing.
-use borrow.Author.Rules.{rules}
 use Rattle.placement.proofs.Sets.{no_first, no_second, from_below, from_above}
 use Rattle.placement.proofs.share.Goals as goal
 

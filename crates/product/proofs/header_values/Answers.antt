@@ -5,7 +5,6 @@ use Rattle.layout.specs.Answers.{verdict_is}
 use Rattle.layout.proofs.Replies.{told-refused, told-accepted}
 use Rattle.layout.proofs.Sound.{sound}
 use Rattle.values.specs.Header.{header_for}
-use borrow.Author.Rules.{rules}
 use Rattle.product.proofs.header_values.Goals as goal
 
 pub returns-in-Refused : goal.returns-in-Refused

@@ -5,7 +5,6 @@ use native.Mathlib.Omega.{arith}
 use Rattle.layout.specs.Answers.{verdict_is, directory_for}
 use Rattle.layout.proofs.Replies.{told-refused, told-accepted}
 use Rattle.product.proofs.Calls.{now_dsds, now_few, now_directory}
-use borrow.Author.Rules.{rules}
 use Rattle.product.proofs.open_directory.Goals as goal
 
 pub open_headers-opened-requires : goal.open_headers-opened-requires

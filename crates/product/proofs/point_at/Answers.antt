@@ -3,7 +3,6 @@
 use Prim.Native.Nat.{ℕ}
 use mathlib.Core.List.{List}
 use mathlib.Core.Path.{◌∙◌}
-use borrow.Author.Rules.{rules}
 use Rattle.layout.specs.Answers.{point_answer_is}
 use Rattle.layout.specs.Fields.{point_in, point_reply}
 use Rattle.product.proofs.Calls.{in_product, record-within, reads_record, reads_nothing}

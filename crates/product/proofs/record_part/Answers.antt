@@ -1,7 +1,6 @@
 -- `product::record_part` meets its contract.
 -- Assumes nothing.
 use mathlib.Core.Path.{◌∙◌}
-use borrow.Author.Rules.{rules}
 use Rattle.product.proofs.Calls.{in_product, part-is, no_part, record-within}
 use Rattle.product.proofs.record_part.Goals as goal
 

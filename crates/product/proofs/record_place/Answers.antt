@@ -6,7 +6,6 @@ use Rattle.layout.specs.Answers.{place_is}
 use Rattle.layout.specs.Records.{record_refusal, record_place}
 use Rattle.layout.proofs.Replies.{told-refused, told-accepted}
 use Rattle.product.proofs.Calls.{now_open}
-use borrow.Author.Rules.{rules}
 use Rattle.product.proofs.record_place.Goals as goal
 
 pub open_headers-opened-requires : goal.open_headers-opened-requires

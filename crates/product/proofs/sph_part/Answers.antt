@@ -1,7 +1,6 @@
 -- `product::sph_part` meets its contract.
 -- Assumes nothing.
 use mathlib.Core.Path.{◌∙◌}
-use borrow.Author.Rules.{rules}
 use Rattle.product.proofs.Calls.{in_product, part-is, no_part, sph_within}
 use Rattle.product.proofs.sph_part.Goals as goal
 

@@ -8,7 +8,6 @@ use Rattle.layout.specs.Answers.{place_is}
 use Rattle.layout.specs.Records.{sph_place}
 use Rattle.layout.proofs.Replies.{told-refused, told-accepted}
 use Rattle.product.proofs.Calls.{now_dsds, lines_are}
-use borrow.Author.Rules.{rules}
 use Rattle.product.proofs.sph_place.Goals as goal
 
 pub open_headers-opened-requires : goal.open_headers-opened-requires

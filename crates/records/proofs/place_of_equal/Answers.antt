@@ -4,7 +4,6 @@ use mathlib.Core.Path.{◌∙◌}
 use native.Mathlib.Omega.{arith}
 use Rattle.layout.specs.Answers.{place_is}
 use Rattle.records.proofs.Laws.{entries-few, no_record, record-inside, equal_record}
-use borrow.Author.Rules.{rules}
 use Rattle.records.proofs.place_of_equal.Goals as goal
 
 pub offset_bounds-counts-entry : goal.offset_bounds-counts-entry

@@ -3,7 +3,6 @@
 use mathlib.Core.Path.{sym, ◌∙◌}
 use native.Mathlib.Omega.{arith}
 use Rattle.records.proofs.Laws.{entries-few, not_below, not_above, is_between, in_entries, past_entries}
-use borrow.Author.Rules.{rules}
 use Rattle.records.proofs.place_of_record.Goals as goal
 
 pub returns-then-sets-entry : goal.returns-then-sets-entry

@@ -4,7 +4,6 @@ use mathlib.Core.Path.{sym, ◌∙◌}
 use native.Mathlib.Omega.{arith}
 use Rattle.layout.specs.Answers.{place_is}
 use Rattle.records.proofs.Laws.{laid, entries-few, states_inside, unequal_inside, unequal_record, no_unequal}
-use borrow.Author.Rules.{rules}
 use Rattle.records.proofs.place_of_unequal.Goals as goal
 
 pub states_span-span-requires : goal.states_span-span-requires

@@ -1,7 +1,6 @@
 -- `sph::blanks_end` meets its contract: byte 10, or a run behind which only byte 10 may follow.
 -- Assumes nothing.
 use native.Mathlib.Omega.{arith}
-use borrow.Author.Rules.{rules}
 use Rattle.sph.proofs.LineEnds.{ends_here, blanks_here, run_within, blanks_run}
 use Rattle.sph.proofs.blanks_end.Goals as goal
 

@@ -1,7 +1,6 @@
 -- `sph::ends_at` meets its contract.
 -- Assumes nothing.
 use native.Mathlib.Omega.{arith}
-use borrow.Author.Rules.{rules}
 use Rattle.sph.proofs.LineEnds.{ends-none, ends_test}
 use Rattle.sph.proofs.ends_at.Goals as goal
 

@@ -1,8 +1,7 @@
 -- `sph::first_bad_line` meets its contract: what is left of the search from the line at `start` on is the whole search.
 -- Assumes nothing.
-use Prim.Native.Nat.{◌-◌}
 use native.Mathlib.Omega.{arith}
-use Rattle.sph.proofs.BadLines.{line-bad, line-good, Reached, reached-first, reached-bad, reached_end, reached-next}
+use Rattle.sph.proofs.BadLines.{line-bad, line-good, reached-first, reached-bad, reached_end, reached-next}
 use Rattle.sph.proofs.first_bad_line.Goals as goal
 
 pub loop-start-init : goal.loop-start-init

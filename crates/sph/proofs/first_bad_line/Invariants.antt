@@ -1,6 +1,5 @@
 use Prim.Native.Nat.{◌-◌}
-use native.Mathlib.Omega.{arith}
-use Rattle.sph.proofs.BadLines.{line-bad, line-good, Reached, reached-first, reached-bad, reached_end, reached-next}
+use Rattle.sph.proofs.BadLines.{Reached}
 use Rattle.sph.proofs.first_bad_line.Given as goal
 
 abbrev pub invariant-loop-start : goal.invariant-loop-start

@@ -1,12 +1,6 @@
 -- `sph::first_not_in_keyword` meets its contract: what is left of the search from `i` on is the whole search.
 -- Assumes nothing.
-use Prim.Native.Nat.{◌≤◌, ◌-◌}
-use mathlib.Core.Path.{◌≡◌}
 use native.Mathlib.Omega.{arith}
-use borrow.Author.Rules.{rules}
-use borrow.Author.Tests.{not-true, not-false}
-use Rattle.layout.specs.Search.{find}
-use Rattle.text.specs.Runs.{fails}
 use Rattle.sph.specs.LineEnds.{in_keyword}
 use Rattle.layout.proofs.Laws.{find_hit, find-next, find_none}
 use Rattle.text.proofs.Tests.{passing, failing}

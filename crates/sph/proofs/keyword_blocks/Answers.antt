@@ -1,10 +1,6 @@
 -- `sph::keyword_blocks` meets its contract: each block is skipped whole, and the last ends with the run.
 -- Assumes nothing.
-use Prim.Native.Nat.{◌-◌}
 use native.Mathlib.Omega.{arith}
-use borrow.Author.Tests.{not-false}
-use Rattle.text.specs.Runs.{fails, Skipped}
-use Rattle.sph.specs.LineEnds.{in_keyword}
 use Rattle.text.proofs.Runs.{skipped_first, skipped_block, skipped_last}
 use Rattle.sph.proofs.keyword_blocks.Goals as goal
 

@@ -1,9 +1,6 @@
 use Prim.Native.Nat.{◌-◌}
-use native.Mathlib.Omega.{arith}
-use borrow.Author.Tests.{not-false}
 use Rattle.text.specs.Runs.{fails, Skipped}
 use Rattle.sph.specs.LineEnds.{in_keyword}
-use Rattle.text.proofs.Runs.{skipped_first, skipped_block, skipped_last}
 use Rattle.sph.proofs.keyword_blocks.Given as goal
 
 abbrev pub invariant-loop-i : goal.invariant-loop-i

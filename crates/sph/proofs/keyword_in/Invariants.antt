@@ -1,13 +1,9 @@
 use Prim.Native.Nat.{◌≤◌, ◌-◌}
 use mathlib.Core.Bool.{not}
 use mathlib.Core.Path.{◌≡◌}
-use native.Mathlib.Omega.{arith}
-use borrow.Author.Rules.{rules}
 use Rattle.layout.specs.Search.{some}
 use Rattle.text.specs.Runs.{fails}
 use Rattle.sph.specs.LineEnds.{in_keyword}
-use Rattle.text.proofs.Runs.{all_none, all_more, all_end}
-use Rattle.text.proofs.Tests.{class_test}
 use Rattle.sph.proofs.keyword_in.Given as goal
 
 abbrev pub invariant-loop-i : goal.invariant-loop-i

@@ -1,7 +1,6 @@
 -- `sph::last_end` meets its contract.
 -- Assumes nothing.
 use native.Mathlib.Omega.{arith}
-use borrow.Author.Rules.{rules}
 use Rattle.sph.proofs.LineEnds.{ends_here, last_none, last_here}
 use Rattle.sph.proofs.last_end.Goals as goal
 

@@ -1,7 +1,6 @@
 -- `sph::line_end` meets its contract.
 -- Assumes nothing.
 use native.Mathlib.Omega.{arith}
-use borrow.Author.Rules.{rules}
 use Rattle.sph.proofs.LineEnds.{line-blanks, line_low, line-high, line-keyword}
 use Rattle.sph.proofs.line_end.Goals as goal
 

@@ -2,7 +2,6 @@
 -- Assumes nothing.
 use native.Mathlib.Omega.{arith}
 use Rattle.layout.specs.Sph.{ended, quoted}
-use borrow.Author.Rules.{rules}
 use Rattle.sph.proofs.LineEnds.{run_within, quoted_run, after_none, after-other, after_it}
 use Rattle.sph.proofs.quoted_end.Goals as goal
 

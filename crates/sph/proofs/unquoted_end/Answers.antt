@@ -1,7 +1,6 @@
 -- `sph::unquoted_end` meets its contract: byte 10, or a run behind which only byte 10 may follow.
 -- Assumes nothing.
 use native.Mathlib.Omega.{arith}
-use borrow.Author.Rules.{rules}
 use Rattle.sph.proofs.LineEnds.{ends_here, unquoted_here, run_within, unquoted_run}
 use Rattle.sph.proofs.unquoted_end.Goals as goal
 

@@ -1,8 +1,6 @@
 -- `sph::value_end` meets its contract.
 -- Assumes nothing.
 use native.Mathlib.Omega.{arith}
-use borrow.Author.Tests.{not-true, not-false}
-use borrow.Author.Rules.{rules}
 use Rattle.sph.proofs.LineEnds.{value_none, value-quoted, value-bad, value-unquoted}
 use Rattle.sph.proofs.value_end.Goals as goal
 

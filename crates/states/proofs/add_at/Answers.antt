@@ -2,7 +2,6 @@
 -- Assumes nothing.
 use native.Mathlib.Omega.{arith}
 use Rattle.states.proofs.Sums.{added_below, added_above, added-one}
-use borrow.Author.Rules.{rules}
 use Rattle.states.proofs.add_at.Goals as goal
 
 pub returns-then-kind-lt1 : goal.returns-then-kind-lt1

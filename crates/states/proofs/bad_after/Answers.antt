@@ -2,7 +2,6 @@
 -- Assumes nothing.
 use mathlib.Core.Bool.{and-false}
 use borrow.Author.Tests.{eq-eqb, ne_eqb}
-use borrow.Author.Rules.{rules}
 use Rattle.states.proofs.bad_after.Goals as goal
 
 pub returns-then-bad-i : goal.returns-then-bad-i

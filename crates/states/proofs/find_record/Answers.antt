@@ -1,13 +1,10 @@
 -- `states::find_record` meets its contract: what is left of the search from state `i` on is the whole search.
 -- Assumes nothing.
-use Prim.Native.Nat.{◌≤◌, ◌-◌}
-use mathlib.Core.Path.{◌≡◌}
 use native.Mathlib.Omega.{arith}
 use borrow.Author.Rules.{rules}
-use Rattle.layout.specs.Records.{variable_lengths}
-use Rattle.states.specs.States.{state_is, state_from, states_from, cap, found_behind, found}
+use Rattle.states.specs.States.{state_is, state_from, found}
 use Rattle.states.proofs.Sums.{bytes_small, capped_le}
-use Rattle.states.proofs.Laws.{rest_from, rest_whole, record_here, record_later, record_nowhere}
+use Rattle.states.proofs.Laws.{rest_whole, record_here, record_later, record_nowhere}
 use Rattle.states.proofs.find_record.Goals as goal
 
 pub loop-i-init : goal.loop-i-init

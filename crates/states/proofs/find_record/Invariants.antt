@@ -1,11 +1,8 @@
 use Prim.Native.Nat.{◌≤◌, ◌-◌}
 use mathlib.Core.Path.{◌≡◌}
-use native.Mathlib.Omega.{arith}
-use borrow.Author.Rules.{rules}
 use Rattle.layout.specs.Records.{variable_lengths}
-use Rattle.states.specs.States.{state_is, state_from, states_from, cap, found_behind, found}
-use Rattle.states.proofs.Sums.{bytes_small, capped_le}
-use Rattle.states.proofs.Laws.{rest_from, rest_whole, record_here, record_later, record_nowhere}
+use Rattle.states.specs.States.{states_from, cap, found_behind, found}
+use Rattle.states.proofs.Laws.{rest_from}
 use Rattle.states.proofs.find_record.Given as goal
 
 abbrev pub invariant-loop-i : goal.invariant-loop-i

@@ -1,11 +1,6 @@
 -- `states::first_role` meets its contract: what is left of the search from `i` on is the whole search.
 -- Assumes nothing.
-use Prim.Native.Nat.{◌≤◌, ◌-◌}
-use mathlib.Core.Path.{◌≡◌}
-use mathlib.Core.Logic.{⊎_elim}
 use native.Mathlib.Omega.{arith}
-use borrow.Author.Rules.{rules}
-use Rattle.layout.specs.Search.{find}
 use Rattle.layout.proofs.Laws.{find_hit, find-next, find_none}
 use Rattle.states.specs.Roles.{role_within}
 use Rattle.states.proofs.Sums.{within_in, within_below, within_above}

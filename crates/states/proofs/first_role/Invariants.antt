@@ -1,12 +1,7 @@
 use Prim.Native.Nat.{◌≤◌, ◌-◌}
 use mathlib.Core.Path.{◌≡◌}
-use mathlib.Core.Logic.{⊎_elim}
-use native.Mathlib.Omega.{arith}
-use borrow.Author.Rules.{rules}
 use Rattle.layout.specs.Search.{find}
-use Rattle.layout.proofs.Laws.{find_hit, find-next, find_none}
 use Rattle.states.specs.Roles.{role_within}
-use Rattle.states.proofs.Sums.{within_in, within_below, within_above}
 use Rattle.states.proofs.first_role.Given as goal
 
 abbrev pub invariant-loop-i : goal.invariant-loop-i

@@ -1,11 +1,8 @@
 -- `states::first_unfilled` meets its contract: what is left of the search from `i` on is the whole search.
 -- Assumes nothing.
-use Prim.Native.Nat.{◌≤◌, ◌-◌}
-use mathlib.Core.Path.{◌≡◌, refl, sym, ◌∙◌}
+use mathlib.Core.Path.{refl, sym, ◌∙◌}
 use native.Mathlib.Omega.{arith}
 use native.Mathlib.Nat.{sub-zero}
-use borrow.Author.Rules.{rules}
-use Rattle.layout.specs.Search.{find}
 use Rattle.layout.proofs.Laws.{find_hit, find-next, find_none}
 use Rattle.states.specs.Roles.{unfilled_at}
 use Rattle.states.proofs.first_unfilled.Goals as goal

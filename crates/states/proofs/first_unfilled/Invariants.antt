@@ -1,10 +1,6 @@
 use Prim.Native.Nat.{◌≤◌, ◌-◌}
-use mathlib.Core.Path.{◌≡◌, refl, sym, ◌∙◌}
-use native.Mathlib.Omega.{arith}
-use native.Mathlib.Nat.{sub-zero}
-use borrow.Author.Rules.{rules}
+use mathlib.Core.Path.{◌≡◌}
 use Rattle.layout.specs.Search.{find}
-use Rattle.layout.proofs.Laws.{find_hit, find-next, find_none}
 use Rattle.states.specs.Roles.{unfilled_at}
 use Rattle.states.proofs.first_unfilled.Given as goal
 

@@ -5,7 +5,6 @@ use mathlib.Core.Bool.{not}
 use mathlib.Core.Path.{sym, ap, ◌∙◌}
 use native.Mathlib.Nat.{sub-zero, zero-add}
 use lib.Dec.{eqb}
-use borrow.Author.Rules.{rules}
 use Rattle.layout.proofs.Laws.{some-found}
 use Rattle.states.specs.Roles.{role_within, has_variable}
 use Rattle.states.proofs.has_variable.Goals as goal

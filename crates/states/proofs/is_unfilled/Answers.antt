@@ -3,7 +3,6 @@
 -- src/lib.rt:32:9
 use native.Mathlib.Omega.{arith}
 use Rattle.states.proofs.Roles.{filled_below, filled_above, count_differs, total_decides}
-use borrow.Author.Rules.{rules}
 use Rattle.states.proofs.is_unfilled.Goals as goal
 
 pub returns-then-role-lt1 : goal.returns-then-role-lt1

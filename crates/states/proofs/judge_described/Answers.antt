@@ -1,11 +1,9 @@
 -- `states::judge_described` meets its contract.
 -- Assumes nothing.
-use Prim.Native.Nat.{◌≤◌}
-use mathlib.Core.Path.{◌≡◌, ◌∙◌}
+use mathlib.Core.Path.{◌∙◌}
 use native.Mathlib.Omega.{arith}
 use Rattle.states.proofs.Roles.{by_empty, by_size, by_bad, by_good}
 use Rattle.states.proofs.Fits.{most-entries, count_fits, states-fit}
-use borrow.Author.Rules.{rules}
 use Rattle.states.proofs.judge_described.Goals as goal
 
 pub offset_bounds-sizes-i : goal.offset_bounds-sizes-i

@@ -4,7 +4,6 @@ use mathlib.Core.Path.{◌∙◌}
 use native.Mathlib.Omega.{arith}
 use Rattle.layout.specs.Answers.{verdict_is}
 use Rattle.states.proofs.Roles.{all-filled, one-unfilled, unfilled-inside}
-use borrow.Author.Rules.{rules}
 use Rattle.states.proofs.judge_filled.Goals as goal
 
 pub returns-then-unfilled-entries : goal.returns-then-unfilled-entries

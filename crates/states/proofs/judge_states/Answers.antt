@@ -1,7 +1,6 @@
 -- `states::judge_states` meets its contract.
 -- Assumes nothing.
 use mathlib.Core.Path.{sym, ◌∙◌}
-use borrow.Author.Tests.{not-true}
 use Rattle.layout.specs.Answers.{verdict_is}
 use Rattle.states.proofs.Fits.{most-entries, no_variable, span_inside, tally_decides}
 use Rattle.states.proofs.judge_states.Goals as goal

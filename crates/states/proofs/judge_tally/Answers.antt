@@ -1,11 +1,8 @@
 -- `states::judge_tally` meets its contract.
 -- Assumes nothing.
-use Prim.Native.Nat.{◌≤◌}
 use mathlib.Core.Path.{sym, ◌∙◌}
-use borrow.Author.Tests.{not-true, not-false}
 use Rattle.layout.specs.Answers.{verdict_is}
 use Rattle.states.proofs.Fits.{most-entries, no_variable, in_entries, none_described, one_described}
-use borrow.Author.Rules.{rules}
 use Rattle.states.proofs.judge_tally.Goals as goal
 
 pub has_variable-requires : goal.has_variable-requires

@@ -5,7 +5,6 @@ use native.Mathlib.Nat.{sub-zero}
 use Rattle.layout.proofs.Only.{only-missing, first-inside, only_one, only_doubled}
 use Rattle.states.specs.Roles.{only_states}
 use mathlib.Core.Path.{sym, ◌∙◌}
-use borrow.Author.Rules.{rules}
 use Rattle.states.proofs.only_states.Goals as goal
 
 pub returns-then-i-entries : goal.returns-then-i-entries

@@ -2,7 +2,6 @@
 -- Assumes nothing.
 use mathlib.Core.Path.{sym}
 use Rattle.states.proofs.Sums.{capped_is, capped_stops}
-use borrow.Author.Rules.{rules}
 use Rattle.states.proofs.plus.Goals as goal
 
 pub returns-then-all-gt-CAP : goal.returns-then-all-gt-CAP

@@ -1,11 +1,10 @@
 -- `states::tally_states` meets its contract: what is left of the tally from state `i` on is the whole tally.
 -- Assumes nothing.
-use Prim.Native.Nat.{◌≤◌, ◌-◌}
-use mathlib.Core.Path.{◌≡◌, sym, ap, ◌∙◌}
+use mathlib.Core.Path.{sym, ap, ◌∙◌}
 use native.Mathlib.Omega.{arith}
-use Rattle.states.specs.States.{state_is, state_from, states_from, Capped, tally, after, no_tally}
+use Rattle.states.specs.States.{state_is, state_from, tally, after, no_tally}
 use Rattle.states.proofs.Sums.{no_sums}
-use Rattle.states.proofs.Laws.{rest_from, rest_whole, after-all, after_step, after_end, with_capped}
+use Rattle.states.proofs.Laws.{rest_whole, after-all, after_step, after_end, with_capped}
 use Rattle.states.proofs.tally_states.Goals as goal
 
 pub loop-i-init : goal.loop-i-init

@@ -1,9 +1,7 @@
 use Prim.Native.Nat.{◌≤◌, ◌-◌}
-use mathlib.Core.Path.{◌≡◌, sym, ap, ◌∙◌}
-use native.Mathlib.Omega.{arith}
-use Rattle.states.specs.States.{state_is, state_from, states_from, Capped, tally, after, no_tally}
-use Rattle.states.proofs.Sums.{no_sums}
-use Rattle.states.proofs.Laws.{rest_from, rest_whole, after-all, after_step, after_end, with_capped}
+use mathlib.Core.Path.{◌≡◌}
+use Rattle.states.specs.States.{states_from, Capped, tally, after, no_tally}
+use Rattle.states.proofs.Laws.{rest_from}
 use Rattle.states.proofs.tally_states.Given as goal
 
 abbrev pub invariant-loop-i : goal.invariant-loop-i

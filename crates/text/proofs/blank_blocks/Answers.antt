@@ -1,10 +1,6 @@
 -- `text::blank_blocks` meets its contract: each block is skipped whole, and the last ends with the run.
 -- Assumes nothing.
-use Prim.Native.Nat.{◌-◌}
 use native.Mathlib.Omega.{arith}
-use borrow.Author.Tests.{not-false}
-use Rattle.text.specs.Blanks.{not_blank}
-use Rattle.text.specs.Runs.{Skipped}
 use Rattle.text.proofs.Runs.{skipped_first, skipped_block, skipped_last}
 use Rattle.text.proofs.blank_blocks.Goals as goal
 

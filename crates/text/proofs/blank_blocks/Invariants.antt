@@ -1,9 +1,6 @@
 use Prim.Native.Nat.{◌-◌}
-use native.Mathlib.Omega.{arith}
-use borrow.Author.Tests.{not-false}
 use Rattle.text.specs.Blanks.{not_blank}
 use Rattle.text.specs.Runs.{Skipped}
-use Rattle.text.proofs.Runs.{skipped_first, skipped_block, skipped_last}
 use Rattle.text.proofs.blank_blocks.Given as goal
 
 abbrev pub invariant-loop-i : goal.invariant-loop-i

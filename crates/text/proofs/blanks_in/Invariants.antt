@@ -1,11 +1,8 @@
 use Prim.Native.Nat.{◌≤◌, ◌-◌}
 use mathlib.Core.Bool.{not}
 use mathlib.Core.Path.{◌≡◌}
-use native.Mathlib.Omega.{arith}
 use Rattle.layout.specs.Search.{some}
 use Rattle.text.specs.Blanks.{not_blank}
-use Rattle.text.proofs.Runs.{all_none, all_more, all_end}
-use Rattle.text.proofs.Tests.{blank_test}
 use Rattle.text.proofs.blanks_in.Given as goal
 
 abbrev pub invariant-loop-i : goal.invariant-loop-i

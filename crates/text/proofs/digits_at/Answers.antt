@@ -1,11 +1,7 @@
 -- `text::digits_at` meets its contract: the digits left, behind the magnitude so far, are all the digits.
 -- Assumes nothing.
-use Prim.Native.Nat.{◌-◌, ◌≤◌}
-use mathlib.Core.Path.{◌≡◌, refl, sym, ◌∙◌}
+use mathlib.Core.Path.{refl, sym, ◌∙◌}
 use native.Mathlib.Omega.{arith}
-use Rattle.layout.specs.Bytes.{part}
-use Rattle.layout.specs.Text.{digits}
-use Rattle.text.specs.Numbers.{capped}
 use Rattle.text.proofs.Numbers.{capped-most, digit-next, digits_end}
 use Rattle.text.proofs.digits_at.Goals as goal
 

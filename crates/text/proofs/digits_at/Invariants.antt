@@ -1,10 +1,8 @@
 use Prim.Native.Nat.{◌-◌, ◌≤◌}
-use mathlib.Core.Path.{◌≡◌, refl, sym, ◌∙◌}
-use native.Mathlib.Omega.{arith}
+use mathlib.Core.Path.{◌≡◌}
 use Rattle.layout.specs.Bytes.{part}
 use Rattle.layout.specs.Text.{digits}
 use Rattle.text.specs.Numbers.{capped}
-use Rattle.text.proofs.Numbers.{capped-most, digit-next, digits_end}
 use Rattle.text.proofs.digits_at.Given as goal
 
 abbrev pub invariant-loop-digit : goal.invariant-loop-digit

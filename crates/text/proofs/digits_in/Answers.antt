@@ -1,13 +1,7 @@
 -- `text::digits_in` meets its contract: the bytes so far, tested as a whole.
 -- Assumes nothing.
-use Prim.Native.Nat.{◌≤◌, ◌-◌}
-use mathlib.Core.Bool.{not}
-use mathlib.Core.Path.{◌≡◌}
 use native.Mathlib.Omega.{arith}
-use borrow.Author.Rules.{rules}
-use Rattle.layout.specs.Search.{some}
 use Rattle.layout.specs.Text.{digit, fits}
-use Rattle.text.specs.Runs.{fails}
 use Rattle.text.proofs.Runs.{all_none, all_more, all_end}
 use Rattle.text.proofs.Tests.{class_test}
 use Rattle.text.proofs.digits_in.Goals as goal

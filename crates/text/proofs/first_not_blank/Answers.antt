@@ -1,11 +1,6 @@
 -- `text::first_not_blank` meets its contract: what is left of the search from `i` on is the whole search.
 -- Assumes nothing.
-use Prim.Native.Nat.{◌≤◌, ◌-◌}
-use mathlib.Core.Path.{◌≡◌}
 use native.Mathlib.Omega.{arith}
-use borrow.Author.Rules.{rules}
-use Rattle.layout.specs.Search.{find}
-use Rattle.text.specs.Blanks.{not_blank}
 use Rattle.layout.proofs.Laws.{find_hit, find-next, find_none}
 use Rattle.text.proofs.Tests.{is_blank, not-blank}
 use Rattle.text.proofs.first_not_blank.Goals as goal

@@ -1,11 +1,7 @@
 use Prim.Native.Nat.{◌≤◌, ◌-◌}
 use mathlib.Core.Path.{◌≡◌}
-use native.Mathlib.Omega.{arith}
-use borrow.Author.Rules.{rules}
 use Rattle.layout.specs.Search.{find}
 use Rattle.text.specs.Blanks.{not_blank}
-use Rattle.layout.proofs.Laws.{find_hit, find-next, find_none}
-use Rattle.text.proofs.Tests.{is_blank, not-blank}
 use Rattle.text.proofs.first_not_blank.Given as goal
 
 abbrev pub invariant-loop-i : goal.invariant-loop-i

@@ -1,13 +1,7 @@
 -- `text::first_not_plain` meets its contract: what is left of the search from `i` on is the whole search.
 -- Assumes nothing.
-use Prim.Native.Nat.{◌≤◌, ◌-◌}
-use mathlib.Core.Path.{◌≡◌}
 use native.Mathlib.Omega.{arith}
-use borrow.Author.Rules.{rules}
-use borrow.Author.Tests.{not-true, not-false}
-use Rattle.layout.specs.Search.{find}
 use Rattle.layout.specs.Text.{plain, fits}
-use Rattle.text.specs.Runs.{fails}
 use Rattle.layout.proofs.Laws.{find_hit, find-next, find_none}
 use Rattle.text.proofs.Tests.{passing, failing}
 use Rattle.text.proofs.first_not_plain.Goals as goal

@@ -1,13 +1,8 @@
 use Prim.Native.Nat.{◌≤◌, ◌-◌}
 use mathlib.Core.Path.{◌≡◌}
-use native.Mathlib.Omega.{arith}
-use borrow.Author.Rules.{rules}
-use borrow.Author.Tests.{not-true, not-false}
 use Rattle.layout.specs.Search.{find}
 use Rattle.layout.specs.Text.{plain, fits}
 use Rattle.text.specs.Runs.{fails}
-use Rattle.layout.proofs.Laws.{find_hit, find-next, find_none}
-use Rattle.text.proofs.Tests.{passing, failing}
 use Rattle.text.proofs.first_not_plain.Given as goal
 
 abbrev pub invariant-loop-i : goal.invariant-loop-i

@@ -1,12 +1,9 @@
 -- `text::is_called` meets its contract: what is left of the name from `i` on decides the whole name.
 -- Assumes nothing.
-use Prim.Native.Nat.{◌+◌, ◌-◌, ◌≤◌}
-use mathlib.Core.Path.{◌≡◌, sym, ◌∙◌}
+use Prim.Native.Nat.{◌+◌}
+use mathlib.Core.Path.{sym, ◌∙◌}
 use native.Mathlib.Omega.{arith}
-use lib.ListN.{length, drop}
 use borrow.Author.Tests.{ne_eqb, eq-eqb}
-use Rattle.layout.specs.Bytes.{part}
-use Rattle.layout.specs.Entries.{called}
 use Rattle.text.proofs.Names.{name-start, name_step, name_end}
 use Rattle.text.proofs.is_called.Goals as goal
 

@@ -1,11 +1,8 @@
 use Prim.Native.Nat.{◌+◌, ◌-◌, ◌≤◌}
-use mathlib.Core.Path.{◌≡◌, sym, ◌∙◌}
-use native.Mathlib.Omega.{arith}
+use mathlib.Core.Path.{◌≡◌}
 use lib.ListN.{length, drop}
-use borrow.Author.Tests.{ne_eqb, eq-eqb}
 use Rattle.layout.specs.Bytes.{part}
 use Rattle.layout.specs.Entries.{called}
-use Rattle.text.proofs.Names.{name-start, name_step, name_end}
 use Rattle.text.proofs.is_called.Given as goal
 
 abbrev pub invariant-loop-i : goal.invariant-loop-i

@@ -1,7 +1,6 @@
 -- `text::magnitude_at` meets its contract: ten digits need no cap, with ten zeros before them or without.
 -- Assumes nothing.
 use native.Mathlib.Omega.{arith}
-use borrow.Author.Rules.{rules}
 use Rattle.text.proofs.Numbers.{all_digits, all_zeros, ten-is, twenty_is}
 use Rattle.text.proofs.Tests.{both_true}
 use Rattle.text.proofs.magnitude_at.Goals as goal

@@ -1,7 +1,6 @@
 -- `text::number_at` meets its contract: the sign, and the magnitude of the bytes behind it.
 -- Assumes nothing.
 use native.Mathlib.Omega.{arith}
-use borrow.Author.Rules.{rules}
 use Rattle.text.proofs.Numbers.{number_is}
 use Rattle.text.proofs.number_at.Goals as goal
 

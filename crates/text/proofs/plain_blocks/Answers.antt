@@ -1,10 +1,6 @@
 -- `text::plain_blocks` meets its contract: each block is skipped whole.
 -- Assumes nothing.
-use Prim.Native.Nat.{◌-◌}
 use native.Mathlib.Omega.{arith}
-use borrow.Author.Tests.{not-false}
-use Rattle.layout.specs.Text.{plain, fits}
-use Rattle.text.specs.Runs.{fails, Skipped}
 use Rattle.text.proofs.Runs.{skipped_first, skipped_block}
 use Rattle.text.proofs.plain_blocks.Goals as goal
 

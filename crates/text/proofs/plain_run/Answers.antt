@@ -1,7 +1,6 @@
 -- `text::plain_run` meets its contract: a block by itself, blocks of 96, and blocks of 16.
 -- Assumes nothing.
 use native.Mathlib.Omega.{arith}
-use borrow.Author.Tests.{not-false}
 use Rattle.text.proofs.Runs.{skipped_first, skipped_run}
 use Rattle.text.proofs.plain_run.Goals as goal
 

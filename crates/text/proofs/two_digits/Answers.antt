@@ -1,7 +1,6 @@
 -- `text::two_digits` meets its contract.
 -- Assumes nothing.
 use native.Mathlib.Omega.{arith}
-use borrow.Author.Rules.{rules}
 use Rattle.layout.specs.Bytes.{byte_at}
 use Rattle.text.proofs.Numbers.{pair_is}
 use Rattle.text.proofs.two_digits.Goals as goal

@@ -1,7 +1,6 @@
 -- `text::with_byte` meets its contract.
 -- Assumes nothing.
 use native.Mathlib.Omega.{arith}
-use borrow.Author.Rules.{rules}
 use Rattle.text.proofs.Numbers.{byte_point, byte_digit}
 use Rattle.text.proofs.with_byte.Goals as goal
 

@@ -1,12 +1,8 @@
 -- `text::zeros_in` meets its contract: the bytes so far, tested as a whole.
 -- Assumes nothing.
-use Prim.Native.Nat.{◌≤◌, ◌-◌}
-use mathlib.Core.Bool.{not}
-use mathlib.Core.Path.{◌≡◌, refl}
+use mathlib.Core.Path.{refl}
 use native.Mathlib.Omega.{arith}
-use Rattle.layout.specs.Search.{some}
 use Rattle.layout.specs.Text.{exactly, fits}
-use Rattle.text.specs.Runs.{fails}
 use Rattle.text.proofs.Runs.{all_none, all_more, all_end}
 use Rattle.text.proofs.Tests.{class_test}
 use Rattle.text.proofs.zeros_in.Goals as goal

@@ -1,12 +1,9 @@
 use Prim.Native.Nat.{◌≤◌, ◌-◌}
 use mathlib.Core.Bool.{not}
-use mathlib.Core.Path.{◌≡◌, refl}
-use native.Mathlib.Omega.{arith}
+use mathlib.Core.Path.{◌≡◌}
 use Rattle.layout.specs.Search.{some}
 use Rattle.layout.specs.Text.{exactly, fits}
 use Rattle.text.specs.Runs.{fails}
-use Rattle.text.proofs.Runs.{all_none, all_more, all_end}
-use Rattle.text.proofs.Tests.{class_test}
 use Rattle.text.proofs.zeros_in.Given as goal
 
 abbrev pub invariant-loop-i : goal.invariant-loop-i

@@ -2,7 +2,6 @@
 -- Assumes nothing.
 use mathlib.Core.Path.{◌∙◌}
 use lib.ListN.{length}
-use borrow.Author.Rules.{rules}
 use Rattle.writing.proofs.Puts.{fills, lent_part, lent_length}
 use Rattle.values.proofs.fill.Goals as goal
 

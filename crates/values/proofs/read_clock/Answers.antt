@@ -1,7 +1,6 @@
 -- `values::read_clock` meets its contract: each value stands where its keyword's line has it.
 -- Assumes nothing.
 use mathlib.Core.Path.{◌∙◌}
-use borrow.Author.Rules.{rules}
 use Rattle.layout.specs.Text.{value_of, place_of, width_of, line_classes, value_classes, quote_width, value_width}
 use Rattle.layout.specs.Lines.{mph}
 use Rattle.layout.specs.Entries.{header_number}

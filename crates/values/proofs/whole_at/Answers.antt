@@ -3,7 +3,6 @@
 use Prim.Native.Nat.{◌≤◌}
 use mathlib.Core.Path.{ap, ◌∙◌}
 use native.Mathlib.Omega.{arith}
-use borrow.Author.Rules.{rules}
 use Rattle.layout.specs.Bytes.{part}
 use Rattle.layout.specs.Text.{number_of}
 use Rattle.text.specs.Numbers.{whole_in}

@@ -1,10 +1,7 @@
 -- `writing::name_length` meets its contract. The loop's invariant: the name without its trailing blanks is that of its first `kept` bytes.
 -- Assumes nothing.
-use Prim.Native.Nat.{◌≤◌}
 use mathlib.Core.Path.{◌≡◌, refl, ◌∙◌}
 use native.Mathlib.Omega.{arith}
-use Rattle.layout.specs.Bytes.{part}
-use Rattle.layout.specs.Listing.{trimmed}
 use Rattle.writing.proofs.Names.{kept_less, kept-all, kept-none}
 use Rattle.writing.proofs.name_length.Goals as goal
 

@@ -1,9 +1,7 @@
 use Prim.Native.Nat.{◌≤◌}
-use mathlib.Core.Path.{◌≡◌, refl, ◌∙◌}
-use native.Mathlib.Omega.{arith}
+use mathlib.Core.Path.{◌≡◌}
 use Rattle.layout.specs.Bytes.{part}
 use Rattle.layout.specs.Listing.{trimmed}
-use Rattle.writing.proofs.Names.{kept_less, kept-all, kept-none}
 use Rattle.writing.proofs.name_length.Given as goal
 
 abbrev pub invariant-loop-kept : goal.invariant-loop-kept

@@ -1,7 +1,6 @@
 -- `writing::put_number` meets its contract: a number below 2^64 has at most 20 digits.
 -- Assumes nothing.
 use native.Mathlib.Omega.{arith}
-use borrow.Author.Rules.{rules}
 use Rattle.writing.proofs.Puts.{then}
 use Rattle.writing.proofs.Numbers.{digits_64}
 use Rattle.writing.proofs.put_number.Goals as goal

@@ -4,7 +4,6 @@ use mathlib.Core.Path.{◌∙◌, ap}
 use native.Mathlib.Omega.{arith}
 use lib.IntN.{nat_abs}
 use lib.ListN.{length}
-use borrow.Author.Rules.{rules}
 use mir.Facts.{to_z-of_z}
 use Rattle.writing.proofs.Puts.{then, at_most, spelled}
 use Rattle.writing.proofs.Signs.{negative, not_negative, minus, no_minus}

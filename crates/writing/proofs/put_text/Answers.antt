@@ -1,11 +1,11 @@
 -- `writing::put_text` meets its contract. The loop's invariant: the first `i` bytes of the text are stored.
 -- Assumes nothing.
-use Prim.Native.Nat.{◌+◌, ◌-◌, ◌≤◌}
-use mathlib.Core.Path.{◌≡◌, refl, ◌∙◌}
+use Prim.Native.Nat.{◌+◌, ◌≤◌}
+use mathlib.Core.Path.{refl, ◌∙◌}
 use native.Mathlib.Omega.{arith}
 use native.Mathlib.Numerals.{add-one}
-use lib.ListN.{length, take}
-use lib.Seq.{sets, length-sets, take_all}
+use lib.ListN.{length}
+use lib.Seq.{length-sets, take_all}
 use Rattle.writing.proofs.Puts.{one_more}
 use Rattle.writing.proofs.put_text.Goals as goal
 

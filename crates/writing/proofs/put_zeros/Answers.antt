@@ -1,10 +1,9 @@
 -- `writing::put_zeros` meets its contract. The loop's invariant: the first `i` zeros are stored.
 -- Assumes nothing.
-use Prim.Native.Nat.{◌-◌, ◌≤◌}
 use mathlib.Core.Path.{◌≡◌, refl, ◌∙◌}
 use native.Mathlib.Omega.{arith}
-use lib.ListN.{replicate, length-replicate}
-use lib.Seq.{sets, length-sets}
+use lib.ListN.{length-replicate}
+use lib.Seq.{length-sets}
 use Rattle.writing.proofs.Puts.{once_more}
 use Rattle.writing.proofs.put_zeros.Goals as goal
 

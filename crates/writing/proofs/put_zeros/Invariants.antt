@@ -1,9 +1,7 @@
 use Prim.Native.Nat.{◌-◌, ◌≤◌}
-use mathlib.Core.Path.{◌≡◌, refl, ◌∙◌}
-use native.Mathlib.Omega.{arith}
-use lib.ListN.{replicate, length-replicate}
-use lib.Seq.{sets, length-sets}
-use Rattle.writing.proofs.Puts.{once_more}
+use mathlib.Core.Path.{◌≡◌}
+use lib.ListN.{replicate}
+use lib.Seq.{sets}
 use Rattle.writing.proofs.put_zeros.Given as goal
 
 abbrev pub invariant-loop-i : goal.invariant-loop-i

@@ -3,7 +3,6 @@
 use native.Mathlib.Omega.{arith}
 use Rattle.records.proofs.Laws.{laid, entries-few, states_inside, not_below, not_above, is_between}
 use Rattle.column.proofs.Asked.{given_inside, given-few, given_gathered}
-use borrow.Author.Rules.{rules}
 use Rattle.column.proofs.gathering.gather.Goals as goal
 
 pub bounds-roles-entry : goal.bounds-roles-entry

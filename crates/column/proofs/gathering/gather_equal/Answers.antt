@@ -2,11 +2,9 @@
 -- Assumes nothing.
 use mathlib.Core.Path.{refl}
 use native.Mathlib.Omega.{arith}
-use borrow.Author.Tests.{not-true, not-false}
 use Rattle.layout.specs.Answers.{verdict_is}
 use Rattle.records.proofs.Laws.{entries-few}
 use Rattle.column.proofs.Asked.{none_there, one_inside, one-few, equal_cut, equal_few, equal_all}
-use borrow.Author.Rules.{rules}
 use Rattle.column.proofs.gathering.gather_equal.Goals as goal
 
 pub offset_bounds-counts-entry : goal.offset_bounds-counts-entry

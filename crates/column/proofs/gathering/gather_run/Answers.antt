@@ -3,9 +3,8 @@
 use Prim.Native.Nat.{◌+◌}
 use mathlib.Core.Path.{sym, ◌∙◌}
 use native.Mathlib.Omega.{arith}
-use borrow.Author.Tests.{leb-true, not-true, not-false}
+use borrow.Author.Tests.{leb-true}
 use Rattle.column.proofs.Runs.{none_gathered, run_begun, in_column, in_product, cut_gathered, all_gathered}
-use borrow.Author.Rules.{rules}
 use Rattle.column.proofs.gathering.gather_run.Goals as goal
 
 pub returns-then-high-low : goal.returns-then-high-low

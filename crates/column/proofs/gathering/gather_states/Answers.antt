@@ -1,35 +1,29 @@
 -- `column::gathering::gather_states` meets its contract. The loop's invariant: what the request has of the records of the first `i` states is stored.
 -- Assumes nothing.
-use Prim.Native.Nat.{◌-◌, ◌≤◌, ◌<◌}
 use mathlib.Core.Path.{◌≡◌, refl, ◌∙◌}
 use native.Mathlib.Omega.{arith}
 use lib.ListN.{length}
 use lib.Seq.{length-sets}
-use borrow.Author.Tests.{not-true, not-false}
-use borrow.Author.Rules.{rules}
 use Rattle.layout.specs.Answers.{verdict_is}
 use Rattle.layout.specs.Records.{variable_lengths}
 use Rattle.states.specs.States.{state_is, state_from, states_from}
-use Rattle.states.proofs.Laws.{rest_from, rest_whole, rest_lengths, no_rest}
-use Rattle.column.proofs.Walk.{Walked, at-start, run_inside, walked_on, cut_short, all_there, too_few}
-use borrow.Author.Rules.{rules}
+use Rattle.states.proofs.Laws.{rest_whole, rest_lengths, no_rest}
+use Rattle.column.proofs.Walk.{at-start, run_inside, walked_on, cut_short, all_there, too_few}
 use Rattle.layout.specs.Answers.{verdict_is}
 use Rattle.layout.specs.Records.{variable_lengths}
 use Rattle.states.specs.States.{state_is, state_from, states_from}
-use Rattle.states.proofs.Laws.{rest_from, rest_whole, rest_lengths, no_rest}
-use Rattle.column.proofs.Walk.{Walked, at-start, run_inside, walked_on, cut_short, all_there, too_few}
-use borrow.Author.Rules.{rules}
+use Rattle.states.proofs.Laws.{rest_whole, rest_lengths, no_rest}
+use Rattle.column.proofs.Walk.{at-start, run_inside, walked_on, cut_short, all_there, too_few}
 use Rattle.layout.specs.Answers.{verdict_is}
 use Rattle.layout.specs.Records.{variable_lengths}
 use Rattle.states.specs.States.{state_is, state_from, states_from}
-use Rattle.states.proofs.Laws.{rest_from, rest_whole, rest_lengths, no_rest}
-use Rattle.column.proofs.Walk.{Walked, at-start, run_inside, walked_on, cut_short, all_there, too_few}
-use borrow.Author.Rules.{rules}
+use Rattle.states.proofs.Laws.{rest_whole, rest_lengths, no_rest}
+use Rattle.column.proofs.Walk.{at-start, run_inside, walked_on, cut_short, all_there, too_few}
 use Rattle.layout.specs.Answers.{verdict_is}
 use Rattle.layout.specs.Records.{variable_lengths}
 use Rattle.states.specs.States.{state_is, state_from, states_from}
-use Rattle.states.proofs.Laws.{rest_from, rest_whole, rest_lengths, no_rest}
-use Rattle.column.proofs.Walk.{Walked, at-start, run_inside, walked_on, cut_short, all_there, too_few}
+use Rattle.states.proofs.Laws.{rest_whole, rest_lengths, no_rest}
+use Rattle.column.proofs.Walk.{at-start, run_inside, walked_on, cut_short, all_there, too_few}
 use Rattle.column.proofs.gathering.gather_states.Goals as goal
 
 pub loop-i-init : goal.loop-i-init

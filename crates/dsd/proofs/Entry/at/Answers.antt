@@ -1,6 +1,5 @@
 -- `dsd::Entry::at` meets its contract: a spare's entry is known, another's is read.
 -- Assumes nothing.
-use borrow.Author.Rules.{rules}
 use Rattle.layout.specs.Bytes.{byte_at}
 use Rattle.dsd.proofs.Places.{read_entry, read-spare}
 use Rattle.dsd.proofs.Entry.at.Goals as goal

@@ -2,7 +2,6 @@
 -- Assumes nothing.
 use mathlib.Core.Path.{sym, ◌∙◌}
 use native.Mathlib.Nat.{add-zero}
-use borrow.Author.Rules.{rules}
 use Rattle.dsd.proofs.Entry.counted_with.Goals as goal
 
 pub returns-then-is_non_empty : goal.returns-then-is_non_empty

@@ -6,7 +6,6 @@ use native.Mathlib.Omega.{arith}
 use Rattle.layout.specs.Entries.{is_fixed}
 use Rattle.dsd.specs.Held.{view_of, number_from}
 use Rattle.dsd.proofs.Numbers.{from_one, minus_below, no_quotient, by_quotient}
-use borrow.Author.Rules.{rules}
 use Rattle.dsd.proofs.Entry.is_fixed.Goals as goal
 
 pub returns-then-self : goal.returns-then-self

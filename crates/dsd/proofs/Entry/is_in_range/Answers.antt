@@ -1,11 +1,9 @@
 -- `dsd::Entry::is_in_range` meets its contract.
 -- Assumes nothing.
-use borrow.Author.Tests.{not-true, not-false}
 use mathlib.Core.Bool.{and-false}
 use Rattle.layout.specs.Entries.{in_range}
 use Rattle.dsd.specs.Held.{view_of, number_from}
 use Rattle.dsd.proofs.Numbers.{from_minus_one, negative, positive}
-use borrow.Author.Rules.{rules}
 use Rattle.dsd.proofs.Entry.is_in_range.Goals as goal
 
 pub returns-then-is_negative : goal.returns-then-is_negative

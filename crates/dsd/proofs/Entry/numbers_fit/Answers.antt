@@ -1,10 +1,8 @@
 -- `dsd::Entry::numbers_fit` meets its contract.
 -- Assumes nothing.
-use borrow.Author.Tests.{not-true, not-false}
 use mathlib.Core.Path.{sym, ◌∙◌}
 use Rattle.dsd.specs.Held.{view_of}
 use Rattle.dsd.proofs.Fits.{fits_reference, fits-spare, fits_out, fits-set}
-use borrow.Author.Rules.{rules}
 use Rattle.dsd.proofs.Entry.numbers_fit.Goals as goal
 
 pub returns-then-self-eq82 : goal.returns-then-self-eq82

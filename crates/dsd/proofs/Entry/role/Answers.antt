@@ -2,7 +2,6 @@
 -- Assumes nothing.
 use mathlib.Core.Path.{sym, ◌∙◌}
 use Rattle.dsd.proofs.Fits.{role_variable, role_other, role_states, role_none}
-use borrow.Author.Rules.{rules}
 use Rattle.dsd.proofs.Entry.role.Goals as goal
 
 pub returns-then-is_variable : goal.returns-then-is_variable

@@ -3,7 +3,6 @@
 use mathlib.Core.Path.{sym, ◌∙◌}
 use Rattle.dsd.specs.Held.{view_of, number_from}
 use Rattle.dsd.proofs.Fits.{set-empty, set_uncounted, set_fixed, set_variable}
-use borrow.Author.Rules.{rules}
 use Rattle.dsd.proofs.Entry.set_fits.Goals as goal
 
 pub returns-then-self-eq0 : goal.returns-then-self-eq0

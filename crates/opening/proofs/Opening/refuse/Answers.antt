@@ -1,6 +1,5 @@
 -- `opening::Opening::refuse` meets its contract.
 -- Assumes nothing.
-use borrow.Author.Rules.{rules}
 use Rattle.layout.specs.declared.Verdict.TheVariants.{Refused}
 use Rattle.opening.proofs.Opening.refuse.Goals as goal
 

@@ -3,7 +3,6 @@
 use native.Mathlib.Omega.{arith}
 use Rattle.states.specs.States.{state_is}
 use Rattle.states.proofs.Laws.{count_detached, count-other, count-attached}
-use borrow.Author.Rules.{rules}
 use Rattle.states.proofs.State.adds_to.Goals as goal
 
 pub returns-then-self-ne0 : goal.returns-then-self-ne0

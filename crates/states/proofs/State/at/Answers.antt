@@ -6,7 +6,6 @@ use native.Mathlib.Omega.{arith}
 use Rattle.layout.specs.States.{state_of}
 use Rattle.states.specs.States.{state_is}
 use Rattle.states.proofs.Laws.{unsigned-part, unsigned-one}
-use borrow.Author.Rules.{rules}
 use Rattle.states.proofs.State.at.Goals as goal
 
 pub returns : goal.returns

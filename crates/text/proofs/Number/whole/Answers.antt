@@ -1,6 +1,5 @@
 -- `text::Number::whole` meets its contract: a magnitude below 2^63 and its negative fit an i64.
 -- Assumes nothing.
-use borrow.Author.Rules.{rules}
 use Rattle.text.proofs.Numbers.{minus-fits, minus-whole, plus_whole}
 use Rattle.text.proofs.Number.whole.Goals as goal
 

@@ -1,6 +1,5 @@
 -- `values::MainHeader::at` meets its contract, part by part.
 -- Assumes nothing.
-use borrow.Author.Rules.{rules}
 use Rattle.values.specs.Header.{header_of}
 use Rattle.values.proofs.MainHeader.at.Goals as goal
 

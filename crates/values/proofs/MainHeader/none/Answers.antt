@@ -1,6 +1,5 @@
 -- `values::MainHeader::none` meets its contract.
 -- Assumes nothing.
-use borrow.Author.Rules.{rules}
 use Rattle.values.proofs.MainHeader.none.Goals as goal
 
 pub returns : goal.returns
