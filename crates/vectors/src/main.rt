@@ -21,7 +21,7 @@ use std::rt::{Env, Files};
 use std::{io, str};
 use streams::Arrived;
 
-// Says of a file why it cannot be read. Where that cannot be said there is nobody to tell.
+// Says of a file, or of an argument that names none, why it cannot be read. Where that cannot be said there is nobody to tell.
 fn say_unread(rt: &impl Eprint, name: &str, error: io::Error) {
     let _ = streams::say_failed(rt, format_args!("vectors: {name}"), error);
 }
