@@ -9,9 +9,9 @@ ghost use Rattle.streams.specs.Arrivals.{Fills};
 
 mod calls;
 mod entries;
+mod entry_records;
 mod pixels;
 mod printing;
-mod records;
 
 use calls::show_product;
 use printing::print_text;
