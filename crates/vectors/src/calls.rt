@@ -2,9 +2,9 @@
 ghost use Rattle.std.specs.Prelude.{◌≡◌, length};
 
 use crate::entries::{ENTRIES, show_entries};
+use crate::entry_records::show_all_records;
 use crate::pixels::show_first_records;
 use crate::printing::{print_part, print_text, print_words};
-use crate::records::show_all_records;
 use std::io;
 
 fn show_judge(rt: &impl Print, p: &[u8]) -> io::Result<()> {

@@ -9,9 +9,9 @@ ghost use Rattle.streams.specs.Arrivals.{Fills};
 
 mod calls;
 mod entries;
+mod entry_records;
 mod pixels;
 mod printing;
-mod records;
 
 use calls::show_product;
 use printing::print_text;
@@ -21,7 +21,7 @@ use std::rt::{Env, Files};
 use std::{io, str};
 use streams::Arrived;
 
-// Says of a file why it cannot be read. Where that cannot be said there is nobody to tell.
+// Says of a file, or of an argument that names none, why it cannot be read. Where that cannot be said there is nobody to tell.
 fn say_unread(rt: &impl Eprint, name: &str, error: io::Error) {
     let _ = streams::say_failed(rt, format_args!("vectors: {name}"), error);
 }

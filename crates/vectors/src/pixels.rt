@@ -1,6 +1,6 @@
 // Pixels of residual extinction.
+use crate::entry_records::bits_of;
 use crate::printing::print_words;
-use crate::records::bits_of;
 use std::io;
 
 // The words of a pixel, and the bits of its model behind them.
