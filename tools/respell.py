@@ -71,7 +71,7 @@ def renamed():
     theirs |= {n for p in everywhere for names_used in IMPORTED.findall(read(p)) for n in re.split(r"[,\s]+", names_used)}
     theirs -= {n for p in everywhere if p.endswith(".rt") for n in FIELD.findall(read(p))}
     table = {}
-    for word in sorted(used - library(everywhere) - {"kB"}):
+    for word in sorted(used - library(everywhere) - {"kB", "qN", "sN", "sA"}):
         new = FIXED.get(word) or (parts(word, names) if word in declared and "-" in word and not word.startswith("◌") else snake(word) if is_camel(word) else word)
         if new != word:
             table[word] = new

@@ -1,4 +1,5 @@
-// What C links, as `include/ambrothel.h` declares it: each function calls the one of its name in `ambrothel`, and promises the same.
+// What C links, as `include/ambrothel.h` declares it, and `ambrothel_column`, which it does not declare yet: each function calls the one of its name in
+// `ambrothel`, and promises the same.
 #![tactic(auto)]
 
 ghost use Rattle.std.specs.Prelude.{length};

@@ -1,4 +1,4 @@
--- Header text (document 01, "Header text"): the notation q_n, c, s_n and s_a.B, named lines and spares, and what a value answers.
+-- Header text (document 01, "Header text"): the notation qN, c, sN and sA.B, named lines and spares, and what a value answers.
 -- Assumes nothing.
 use Rattle.std.specs.Prelude.{ℕ, ◌+◌, ◌*◌, ◌-◌, Bool, false, cond, ◌&&◌, ◌||◌, not, List, [], ◌∷◌, ◌++◌, eqb, ℤ, pos, neg_ℤ, length, replicate}
 use Prim.Native.String.{String}
@@ -24,11 +24,11 @@ fits (among ys) x = member x ys
 -- ---- values and lines
 
 pub data Kind : Type 0 where
-  q : ℕ → Kind  -- q_n: a quote, N bytes, a quote
+  q : ℕ → Kind  -- qN: a quote, N bytes, a quote
   c : Kind  -- one byte
   one_of : String → Kind  -- c, one of these
-  s : ℕ → Kind  -- s_n: a sign and N digits
-  s_ab : ℕ → ℕ → Kind  -- s_a.B: a sign, A digits, a point, B digits
+  s : ℕ → Kind  -- sN: a sign and N digits
+  s_ab : ℕ → ℕ → Kind  -- sA.B: a sign, A digits, a point, B digits
 
 pub data Line : Type 0 where
   named : String → Kind → String → Line  -- the keyword, the value, any unit
@@ -100,7 +100,7 @@ pub record Number : Type 0 where
   pub minus : Bool
   pub magnitude : ℕ
 
--- digits, with the point passed over: so s_a.B is in units of its last digit. A blank, as spares have it, counts 0.
+-- digits, with the point passed over: so sA.B is in units of its last digit. A blank, as spares have it, counts 0.
 unfoldable pub digits : ℕ → List ℕ → ℕ
 digits sofar [] = sofar
 digits sofar (x ∷ xs) = digits (cond (eqb x 46) sofar (sofar * 10 + (x - 48))) xs

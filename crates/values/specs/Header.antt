@@ -9,7 +9,7 @@ use Rattle.layout.specs.Answer.{Answer, accepted, refused}
 use Rattle.layout.specs.Entries.{header_number}
 use Rattle.values.specs.declared.MainHeader.{MainHeader}
 
--- a q answers its bytes, a c its byte, s_n and s_a.B a whole number
+-- a q answers its bytes, a c its byte, sN and sA.B a whole number
 abbrev pub text_of : List ℕ → String → List ℕ
 text_of b key = value_of mph b key
 

@@ -28,7 +28,7 @@ loop-kept-smaller c = omega arith
 pub loop-kept-preserved : goal.loop-kept-preserved
 loop-kept-preserved c =
     let turn = c.loop-kept in
-    (omega arith, turn.invariant.1 ∙ kept_less c.args.names.now c.args.start turn.kept (omega arith) (omega arith) c.if-names-start-ne32.false)
+    (omega arith, turn.invariant.1 ∙ kept_less c.args.names.now c.args.start turn.kept (omega arith) (omega arith) (omega arith))
 
 pub returns : goal.returns
 returns c = (omega arith, let e : c.loop-kept.kept ≡ 0 = omega arith in rw e at c.loop-kept.invariant.1 ∙ kept-none c.args.names.now c.args.start)

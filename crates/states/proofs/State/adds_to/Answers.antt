@@ -15,4 +15,4 @@ returns-then-self-kind c = (count-other (state_is c.args.self) _ c.if-self-kind.
 
 pub returns : goal.returns
 unfolding state_is
-returns c = (count-attached (state_is c.args.self) _ c.if-self-ne0.false c.if-self-kind.false, omega arith)
+returns c = (count-attached (state_is c.args.self) _ (omega arith) c.if-self-kind.false, omega arith)
