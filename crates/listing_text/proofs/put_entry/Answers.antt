@@ -16,4 +16,4 @@ pub returns : goal.returns
 returns c =
     let a = c.args in
     let put = then c.put_text-begun.ensures (then c.put_number-numbered.ensures c.put_values.ensures) in
-    spelled (named-line a.names.now a.entry c.if-entry-eq32.false) put
+    spelled (named-line a.names.now a.entry (λ q. omega arith)) put
