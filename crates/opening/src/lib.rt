@@ -118,6 +118,7 @@ pub fn check_headers(
 }
 
 // The same, with the numbers: the answer is the one copy of them.
+#[inline(never)] // its copies are off the stack before the states are read
 pub fn open_headers(p: &[u8], length: u64) -> Opening
     requires { min length longest_headers ≤ lib.ListN.length p.now }
     ensures { Opened p.now length result }
@@ -151,6 +152,7 @@ pub fn open_headers(p: &[u8], length: u64) -> Opening
 }
 
 // All sixteen rules, of a product lent whole and opened.
+#[inline(never)] // and these before a caller goes on
 pub fn judge_opened(p: &[u8], opened: Opening) -> Verdict
     requires { Opened p.now (length p.now) opened }
     ensures { verdict_is result ≡ verdict p.now }
