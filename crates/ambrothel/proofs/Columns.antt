@@ -1,5 +1,6 @@
 -- What is written of a column, and where the room for the words is too short.
 -- Assumes nothing.
+use Rattle.std.specs.Prelude.{Result}
 use Prim.Native.Nat.{ℕ, ◌≤◌, ◌<◌}
 use mathlib.Core.List.{List}
 use mathlib.Core.Path.{ap}
@@ -7,7 +8,7 @@ use lib.ListN.{length}
 use borrow.Author.Tests.{le-leb, lt-leb}
 use Rattle.layout.specs.Answer.{Reply}
 use Rattle.layout.specs.Answers.{verdict_is}
-use Rattle.layout.specs.declared.Verdict.{Verdict}
+use Rattle.layout.specs.declared.Refusal.{Refusal}
 use Rattle.writing.specs.Put.{Put}
 use Rattle.writing.proofs.Puts.{spelled}
 use Rattle.words.specs.Words.{verdict_words}
@@ -22,7 +23,7 @@ module _ (reply : Reply (List ℕ)) (words values : List ℕ) where
   unfolding long_enough
   column_short h = record { refusal = one_short (rw verdict_three h); written = rw (verdict_three (refusal_of reply), lt-leb 3 (length words) h) }
 
-  pub column_written : {words' values' : List ℕ} {r : ℕ} {v : Verdict} → 3 ≤ length words → ColumnIs reply values values' v → Put 3 (verdict_words (verdict_is v)) words words' 0 r → ColumnCall reply words words' values values' 0
+  pub column_written : {words' values' : List ℕ} {r : ℕ} {v : Result (Unit {0}) Refusal} → 3 ≤ length words → ColumnIs reply values values' v → Put 3 (verdict_words (verdict_is v)) words words' 0 r → ColumnCall reply words words' values values' 0
   unfolding long_enough
   column_written h c p = record {
     refusal = one_written (spelled (ap verdict_words c.told) p) (rw verdict_three h);

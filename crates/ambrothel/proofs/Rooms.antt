@@ -1,20 +1,23 @@
 -- How long the answer of `ambrothel_open_directory` is, whatever the product, and that what is put of an opened product is that answer.
 -- Assumes nothing.
+use Rattle.std.specs.Prelude.{Result, Ok, Err}
 use Prim.Native.Nat.{ℕ, ◌+◌, ◌*◌, ◌≤◌}
 use mathlib.Core.List.{List, map}
-use mathlib.Core.Path.{◌≡◌, refl, ap}
+use mathlib.Core.Path.{◌≡◌, refl, sym, ap}
 use native.Mathlib.Omega.{arith}
 use lib.IntN.{pos}
 use lib.ListN.{length, length-map, length-replicate}
-use Rattle.layout.specs.Answer.{Answer, accepted, refused}
+use Rattle.layout.specs.Answer.{Answer, accepted, refused, ◌else◌}
 use Rattle.layout.specs.Search.{upto}
 use Rattle.layout.specs.Entries.{Entry, dsds_at, entries, entries_from, directory, start, extent}
 use Rattle.layout.specs.Order.{rank_of, ranks_of}
 use Rattle.layout.specs.Rules.{verdict}
-use Rattle.layout.specs.Answers.{verdict_is, padded, type_of, count_of, record_size_of, directory_of, no_directory, directory_for}
-use Rattle.layout.specs.declared.Verdict.{Verdict}
-use Rattle.layout.specs.declared.Verdict.TheVariants.{Accepted}
-use Rattle.layout.proofs.Replies.{told-accepted}
+use Rattle.layout.specs.Answers.{reply_is, reply, verdict_is, padded, type_of, count_of, record_size_of, directory_of, no_directory, directory_for}
+use Rattle.layout.specs.declared.Refusal.{Refusal}
+use Rattle.layout.proofs.Replies.{else_is, else_refusal}
+use Rattle.values.specs.Header.{header_of, header_for}
+use Rattle.values.specs.declared.MainHeader.{MainHeader}
+use Rattle.words.specs.Rooms.{header_shown}
 use Rattle.layout.proofs.Sound.{length-map-upto, length-directory, accepted-entries}
 use Rattle.writing.specs.Put.{Put}
 use Rattle.writing.proofs.Puts.{then, spelled}
@@ -22,7 +25,7 @@ use Rattle.ranks.specs.Ranks.{ranks_by}
 use Rattle.directory.specs.Numbers.{directory_with}
 use Rattle.directory.specs.declared.Sets.{Sets}
 use Rattle.directory.proofs.Texts.{padded-long, names-long, filenames-long}
-use Rattle.opening.specs.Opening.{Opened}
+use Rattle.opening.specs.Opening.{OpenedWhole}
 use Rattle.opening.specs.declared.Opening.{Opening}
 use Rattle.product.proofs.Calls.{now_dsds, now_few, now_directory}
 use Rattle.words.specs.Headers.{number_words, directory_words, directory_texts}
@@ -67,11 +70,13 @@ pub record Held (b : List ℕ) (dsds : ℕ) (sets : Sets) : Type 0 where
   pub few : sets.entries ≤ 128
   pub listed : directory_with sets (entries_from b dsds sets.entries) ≡ directory_of (directory b)
 
--- an opening that is judged accepted holds them
-pub opened_held : (b : List ℕ) (o : Opening) → Opened b (length b) o → (v : Verdict) → v ≡ Accepted → verdict_is v ≡ verdict b → Held b o.dsds o.sets
-opened_held b o opened v e judged =
-    let a = told-accepted v (verdict b) e judged in
-    record { accepts = a; inside = (now_dsds b o opened a).1; few = now_few b o opened a; listed = now_directory b o opened a }
+-- an accepted product's opening holds them
+pub opened_held : (b : List ℕ) (o : Opening) → OpenedWhole b (Ok o) → Held b o.dsds o.sets
+unfolding verdict_is
+opened_held b o opened =
+    let a = sym opened.judged in
+    let opens = opened.opens o refl in
+    record { accepts = a; inside = (now_dsds b o opens a).1; few = now_few b o opens a; listed = now_directory b o opens a }
 
 module _ (b : List ℕ) (dsds : ℕ) (sets : Sets) (h : Held b dsds sets) where
   abbrev ds : List Entry
@@ -96,3 +101,11 @@ module _ (b : List ℕ) (dsds : ℕ) (sets : Sets) (h : Held b dsds sets) where
       → Put 772 (number_words accepted sets.entries sets.types sets.offsets sets.sizes sets.counts sets.record_sizes ranks) words words' 0 r
       → Put 3584 (directory_of ds).names texts texts' 0 m → Put 7936 (directory_of ds).filenames texts' texts'' m s → DirectoryCall b words words' texts texts'' 0
   all_put e w t p q q' = rw h.accepts (both_written (words_put e p) (texts_put q q') (rw (words_of b accepted h.accepts) w) (rw (texts_of b accepted h.accepts) t))
+
+-- ---- the main header
+
+-- what is shown of the answer is the product's verdict and header
+pub header_told : (b : List ℕ) (r : Result MainHeader Refusal) → reply r ≡ (verdict b else header_of b) → (verdict_is r ≡ verdict b) × (header_shown r ≡ header_for (verdict b) b)
+unfolding reply_is verdict_is header_shown
+header_told b (Ok h) e = let q = else_is (verdict b) (header_of b) h (sym e) in (sym q.0, rw q.0 (sym q.1))
+header_told b (Err f) e = let q = else_refusal (verdict b) (header_of b) f.number f.place f.entry (sym e) in (sym q, rw q)

@@ -18,7 +18,7 @@ ghost use Rattle.ambrothel.specs.Calls.{DirectoryCall, HeaderCall, ColumnCall};
 
 use column::put_column;
 use extinction_words::{put_model, put_pixel};
-use layout::{Directory, Verdict};
+use placement::Extents;
 use time_words::{put_time, put_whole_text};
 use words::{
     ROOM_TOO_SHORT, WRITTEN, put_directory_numbers, put_doubles, put_field, put_part, put_place,
@@ -45,18 +45,22 @@ pub fn ambrothel_open_directory(p: &[u8], words: &mut [u64], texts: &mut [u8]) -
     if texts.len() < 11520 {
         return ROOM_TOO_SHORT;
     }
-    let opened = opening::open_headers(p, p.len() as u64);
-    let verdict = opening::judge_opened(p, opened);
-    if let Verdict::Refused(refusal) = verdict {
-        return put_whole_directory(Verdict::Refused(refusal), Directory::none(), words, texts);
-    }
+    let opened = match opening::open_product(p) {
+        Ok(opened) => opened,
+        Err(refusal) => return put_whole_directory(Err(refusal), words, texts),
+    };
     let sets = opened.sets;
     let entries = sets.entries;
     let mut ranks = [0u64; 128];
-    ranks::rank_sets(&sets.offsets, &sets.sizes, entries, &mut ranks);
+    let extents = Extents {
+        offsets: &sets.offsets,
+        sizes: &sets.sizes,
+        entries,
+    };
+    ranks::rank_sets(extents, &mut ranks);
     put_directory_numbers(
         words,
-        Verdict::Accepted,
+        Ok(()),
         entries,
         &sets.types,
         &sets.offsets,
@@ -74,10 +78,7 @@ pub fn ambrothel_open_directory(p: &[u8], words: &mut [u64], texts: &mut [u8]) -
 pub fn ambrothel_header_values(p: &[u8], words: &mut [u64], texts: &mut [u8]) -> u32
     ensures { HeaderCall p.now words.old words.new texts.old texts.new result }
 {
-    let answer = product::header_values(p);
-    let verdict = answer.verdict;
-    let header = answer.header;
-    put_whole_header(verdict, header, words, texts)
+    put_whole_header(product::header_values(p), words, texts)
 }
 
 pub fn ambrothel_sph_place(p: &[u8], words: &mut [u64]) -> u32

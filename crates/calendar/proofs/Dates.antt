@@ -1,12 +1,12 @@
 -- Dates of the range and the days before them.
 -- Assumes nothing.
 use Prim.Native.Nat.{ℕ, zero, suc, ◌+◌, ◌*◌, ◌-◌, ◌/◌, ◌%◌, ◌≤◌, ◌<◌}
-use mathlib.Core.Bool.{Bool, true, false, cond, ◌&&◌, and-false}
+use mathlib.Core.Bool.{Bool, true, false, cond}
 use mathlib.Core.Path.{◌≡◌, refl, sym, ap, ◌∙◌}
 use native.Mathlib.Omega.{arith}
-use lib.Dec.{T, leb, eqb}
+use lib.Dec.{T, eqb}
 use lib.ListN.{take, get_or}
-use borrow.Author.Tests.{le-leb, lt-leb, eqb-false}
+use borrow.Author.Tests.{eqb-false}
 use Rattle.layout.specs.Search.{sum}
 use Rattle.layout.proofs.Laws.{and_T, leb-T}
 use Rattle.layout.proofs.Sound.{get_or-map-upto}
@@ -88,39 +88,18 @@ module _ (d : Date) (v : Dated d) where
     pub added_short : (1461 * (d.year - 1980) + 3) / 4 + m + (d.day - 1) < 43830
     added_short = rw before-added before_short
 
--- ---- the test
+-- ---- the days of a month, n to its end and m to its start
 
-module _ (d : Date) where
-  pub too_early : d.year < 1980 → false ≡ valid_date d
-  unfolding valid_date
-  too_early h = rw (lt-leb 1980 d.year h)
+module _ (y month : ℕ) (january : 1 ≤ month) {long : Bool} {n m : ℕ} (q : long ≡ leap y) (e : n ≡ sum (take month (months long)))
+    (f : m ≡ sum (take (month - 1) (months long))) where
+  days_are : n ≡ m + days_of_month y month
+  days_are = e ∙ rw (q, month_is y month january) (ap (λ (k : ℕ). k + days_of_month y month) (sym (rw q at f)))
 
-  pub too_late : 2099 < d.year → false ≡ valid_date d
-  unfolding valid_date
-  too_late h = rw (lt-leb d.year 2099 h, and-false)
+  pub month_ends : m ≤ n
+  month_ends = omega (arith, days_are)
 
-  pub no_month : d.month < 1 → false ≡ valid_date d
-  unfolding valid_date
-  no_month h = rw (lt-leb 1 d.month h, and-false)
-
-  pub no_such_month : 12 < d.month → false ≡ valid_date d
-  unfolding valid_date
-  no_such_month h = rw (lt-leb d.month 12 h, and-false, and-false)
-
-  -- n days to the end of the month, m to its start
-  module _ {long : Bool} {n m : ℕ} (january : 1 ≤ d.month) (q : long ≡ leap d.year)
-      (e : n ≡ sum (take d.month (months long))) (f : m ≡ sum (take (d.month - 1) (months long))) where
-    days_are : n ≡ m + days_of_month d.year d.month
-    days_are = e ∙ rw (q, month_is d.year d.month january) (ap (λ (k : ℕ). k + days_of_month d.year d.month) (sym (rw q at f)))
-
-    pub month_ends : m ≤ n
-    month_ends = omega (arith, days_are)
-
-    pub by_day : 1980 ≤ d.year → d.year ≤ 2099 → d.month ≤ 12 → (leb 1 d.day && leb d.day (n - m)) ≡ valid_date d
-    unfolding valid_date
-    by_day first last december =
-        let w : n - m ≡ days_of_month d.year d.month = omega (arith, days_are) in
-        rw (w, le-leb 1980 d.year first, le-leb d.year 2099 last, le-leb 1 d.month january, le-leb d.month 12 december)
+  pub month_has : n - m ≡ days_of_month y month
+  month_has = omega (arith, days_are)
 
 -- ---- the date found
 

@@ -64,21 +64,13 @@ module _ (long : Bool) (k : ℕ) (u : k ≤ 12) where
       (eqb→eq n m h.0, (leb→le m 366 l.0, leb→le (from_on k 2 (missing long)) (even k) l.1))
 
   -- as the code subtracts
-  module _ {many less : ℕ} (e : many ≡ missing long) (f : less ≡ from_on k 2 many) where
-    pub months-are : (even k - less ≡ sum (take k (months long))) × (even k - less ≤ 366)
-    months-are = rw (f, e) (counted.0, omega (arith, counted.0, counted.1.0))
-
-    pub months-fit : less ≤ even k
-    months-fit = rw (f, e) counted.1.1
+  pub months-fit : {many less : ℕ} → many ≡ missing long → less ≡ from_on k 2 many → less ≤ even k
+  months-fit e f = rw (f, e) counted.1.1
 
 -- ---- the month that a day of a year falls in
 
 -- the days with a February of 30
 module _ (long : Bool) (d : ℕ) where
-  pub even-days : {many more : ℕ} → many ≡ missing long → more ≡ from_on d (61 - many) many → d + more ≡ even_days long d
-  unfolding even_days
-  even-days e f = rw (f, e)
-
   pub even_most : even_days long d ≤ d + 2
   unfolding even_days from_on missing
   even_most = go long (ltb d (61 - missing long))

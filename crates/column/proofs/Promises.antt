@@ -1,6 +1,7 @@
 -- Theorems over the promise of `put_column`: two results are equal; each element is the single request's answer, converted; what stays as it was;
 -- and which refusal is given.
 -- Assumes nothing.
+use Rattle.std.specs.Prelude.{Result, Ok, Err}
 use Prim.Native.Nat.{ℕ, ◌+◌, ◌-◌, ◌≤◌, ◌<◌}
 use mathlib.Core.Bool.{Bool, true, false, ◌&&◌}
 use mathlib.Core.List.{List, ◌++◌, map}
@@ -20,27 +21,24 @@ use Rattle.layout.specs.Rules.{verdict}
 use Rattle.layout.specs.Records.{lengths, record_refusal}
 use Rattle.layout.specs.Fields.{Value, shape_of, bytes_of, value_at, record_of, ends_in, field_refusal, field_in, field_reply}
 use Rattle.layout.specs.Answers.{field_answer_is}
-use Rattle.layout.specs.declared.FieldAnswer.{FieldAnswer}
+use Rattle.layout.specs.declared.Field.{Field}
 use Rattle.layout.specs.declared.Refusal.{Refusal}
-use Rattle.layout.specs.declared.Verdict.{Verdict}
-use Rattle.layout.specs.declared.Verdict.TheVariants.{Accepted, Refused}
 use Rattle.layout.proofs.Laws.{or_else_accepts}
 use Rattle.layout.proofs.Maps.{one-verdict}
 use Rattle.layout.proofs.Replies.{refusal≢is, told-refused, told-accepted, before-is, Numbered, NumberedReply, UpTo, need_numbered, or_else_numbered}
 use Rattle.product.proofs.Numbers.{verdict-number, field_number}
 use Rattle.column.specs.Column.{converted, asked, together, request_refusal, column_reply, refusal_of, column_in, ColumnIs}
-use Rattle.column.proofs.Together.{each_value, first-refusal}
-use Rattle.column.proofs.Filled.{is-refused, is_answered}
+use Rattle.column.proofs.Together.{is-refused, is_answered, each_value, first-refusal}
 use Rattle.column.proofs.Requests.{good-says}
 
 -- two results that the promise allows are equal
-pub one_column : {reply : Reply (List ℕ)} {old new other : List ℕ} {v w : Verdict} → ColumnIs reply old new v → ColumnIs reply old other w → (v ≡ w) × (new ≡ other)
+pub one_column : {reply : Reply (List ℕ)} {old new other : List ℕ} {v w : Result (Unit {0}) Refusal} → ColumnIs reply old new v → ColumnIs reply old other w → (v ≡ w) × (new ≡ other)
 one_column {reply} {old} {new} {other} {v} {w} x y = (one-verdict v w (x.told ∙ sym y.told), x.written ∙ sym y.written)
 
 -- nothing is refused exactly where values are given
 pub answered_exactly : (reply : Reply (List ℕ)) → (refusal_of reply ≡ accepted) ↔ ((xs : List ℕ) × (reply ≡ is xs))
 unfolding refusal_of
-answered_exactly reply = (is_answered reply, λ h. rw h.1)
+answered_exactly reply = (λ h. is_answered reply (sym h), λ h. rw h.1)
 
 -- ---- the reply
 
@@ -116,41 +114,40 @@ module _ (b : List ℕ) (i from to off kind room : ℕ) where
       go (inr q) = let r = field_number b i (from + q.1.0) off kind n p e (as_field (from + q.1.0) n p e q.1.2) in (r.0, omega (arith, r.1))
 
   pub refusal-number : Numbered 33 (refusal_of reply)
-  refusal-number n p e h = column_number n p e (is-refused reply n p e h)
+  refusal-number n p e h = column_number n p e (is-refused reply n p e (sym h))
 
 -- ---- the room
 
-module _ (b : List ℕ) (i from to off kind : ℕ) (old new : List ℕ) (v : Verdict) (promise : ColumnIs (column_reply b i from to off kind (length old)) old new v) where
-  answered : v ≡ Accepted → (xs : List ℕ) × (column_reply b i from to off kind (length old) ≡ is xs)
-  answered e = is_answered (column_reply b i from to off kind (length old)) (told-accepted v _ e promise.told)
+module _ (b : List ℕ) (i from to off kind : ℕ) (old new : List ℕ) (v : Result (Unit {0}) Refusal) (promise : ColumnIs (column_reply b i from to off kind (length old)) old new v) where
+  abbrev said : Reply (List ℕ)
+  said = column_reply b i from to off kind (length old)
 
-  filled : (e : v ≡ Accepted) → new ≡ (answered e).0 ++ drop (to - from) old
-  unfolding column_in
-  filled e =
-      promise.written
-      ∙ rw ((answered e).1, (each_element b i from to off kind (length old) (answered e).0 (answered e).1).0)
+  -- where nothing is refused
+  module _ (x : Unit {0}) (e : v ≡ Ok x) where
+    answered : (xs : List ℕ) × (said ≡ is xs)
+    answered = is_answered said (sym (told-accepted v x _ e promise.told))
 
-  -- where nothing is refused, each element is what any answer that `field_at` may give for its record is, converted
-  pub column_answers : v ≡ Accepted → (k : ℕ) → k < to - from → (x : FieldAnswer) → field_answer_is x ≡ field_reply b i (from + k) off kind → converted (field_answer_is x) ≡ is (get_or new k 0)
-  unfolding asked
-  column_answers e k l x h =
-      let m = each_element b i from to off kind (length old) (answered e).0 (answered e).1 in
-      ap converted h
-      ∙ m.1 k l
-      ∙ ap is (sym (ap (λ (n : List ℕ). get_or n k 0) (filled e) ∙ get_or-append (answered e).0 (drop (to - from) old) 0 k (omega (arith, m.0))))
+    as_many : (length answered.0 ≡ to - from) × ((k : ℕ) → k < to - from → asked b i off kind (from + k) ≡ is (get_or answered.0 k 0))
+    as_many = each_element b i from to off kind (length old) answered.0 answered.1
 
-  -- places behind the last stay
-  pub behind_stays : v ≡ Accepted → drop (to - from) new ≡ drop (to - from) old
-  behind_stays e =
-      ap (drop (to - from)) (filled e)
-      ∙ drop_at (answered e).0 (drop (to - from) old) (to - from) (each_element b i from to off kind (length old) (answered e).0 (answered e).1).0
+    filled : new ≡ answered.0 ++ drop (to - from) old
+    unfolding column_in
+    filled = promise.written ∙ rw (answered.1, as_many.0)
+
+    -- each element is what any answer that `field_at` may give for its record is, converted
+    pub column_answers : (k : ℕ) → k < to - from → (f : Result Field Refusal) → field_answer_is f ≡ field_reply b i (from + k) off kind → converted (field_answer_is f) ≡ is (get_or new k 0)
+    unfolding asked
+    column_answers k l f h =
+        ap converted h ∙ as_many.1 k l ∙ ap is (sym (ap (λ (n : List ℕ). get_or n k 0) filled ∙ get_or-append answered.0 (drop (to - from) old) 0 k (omega (arith, as_many.0))))
+
+    -- places behind the last stay
+    pub behind_stays : drop (to - from) new ≡ drop (to - from) old
+    behind_stays = ap (drop (to - from)) filled ∙ drop_at answered.0 (drop (to - from) old) (to - from) as_many.0
 
   -- a refusal writes nothing
-  pub nothing_written : (r : Refusal) → v ≡ Refused r → new ≡ old
+  pub nothing_written : (r : Refusal) → v ≡ Err r → new ≡ old
   unfolding column_in
-  nothing_written r e =
-      promise.written
-      ∙ rw (is-refused (column_reply b i from to off kind (length old)) r.number r.place r.entry (told-refused v r (refusal_of (column_reply b i from to off kind (length old))) e promise.told))
+  nothing_written r e = promise.written ∙ rw (is-refused said r.number r.place r.entry (sym (told-refused v r (refusal_of said) e promise.told)))
 
   -- where a is b nothing is written, whatever is answered
   pub nothing-asked : from ≡ to → new ≡ old
@@ -159,6 +156,6 @@ module _ (b : List ℕ) (i from to off kind : ℕ) (old new : List ℕ) (v : Ver
       none_left : to - from ≡ 0
       none_left = omega arith
 
-      go : (w : Verdict) → v ≡ w → new ≡ old
-      go Accepted h = rw none_left at (behind_stays h)
-      go (Refused r) h = nothing_written r h
+      go : (w : Result (Unit {0}) Refusal) → v ≡ w → new ≡ old
+      go (Ok x) h = rw none_left at (behind_stays x h)
+      go (Err r) h = nothing_written r h

@@ -6,10 +6,28 @@ use mathlib.Core.Path.{◌≡◌, refl, sym, ap, ◌∙◌}
 use native.Mathlib.Omega.{arith}
 use native.Mathlib.Nat.{add-zero, zero-add, add-suc, suc-add, le_of_suc-le-suc}
 use lib.ListN.{length, get_or}
-use Rattle.layout.specs.Answer.{Reply, refusal, is}
+use Rattle.layout.specs.Answer.{accepted, refused, Reply, refusal, is}
 use Rattle.layout.specs.Search.{upto}
+use Rattle.layout.proofs.Laws.{accepted≢refused}
 use Rattle.layout.proofs.Replies.{refusal≢is}
-use Rattle.column.specs.Column.{◌followed_by◌, together}
+use Rattle.column.specs.Column.{◌followed_by◌, together, refusal_of}
+
+-- ---- a reply by its refusal
+
+pub is-refused : (reply : Reply (List ℕ)) (n p e : ℕ) → refused n p e ≡ refusal_of reply → reply ≡ refusal n p e
+unfolding refusal_of
+is-refused (refusal m q d) n p e h = cc
+is-refused (is xs) n p e h = absurd (accepted≢refused (sym h))
+
+pub is_answered : (reply : Reply (List ℕ)) → accepted ≡ refusal_of reply → (xs : List ℕ) × (reply ≡ is xs)
+unfolding refusal_of
+is_answered (refusal n p e) h = absurd (accepted≢refused h)
+is_answered (is xs) h = (xs, refl)
+
+pub values_are : {xs ys : List ℕ} → ◌≡◌ {A = Reply (List ℕ)} (is xs) (is ys) → xs ≡ ys
+values_are h = cc
+
+-- ---- one after the other
 
 -- a value before others
 one_value : (r : Reply ℕ) (rs : List (Reply ℕ)) (xs : List ℕ) → together (r ∷ rs) ≡ is xs → (x : ℕ) × (ys : List ℕ) × ((r ≡ is x) × ((together rs ≡ is ys) × (xs ≡ x ∷ ys)))
@@ -28,6 +46,12 @@ same p q d a b c h =
     let y : q ≡ b = cc in
     let z : d ≡ c = cc in
     rw (x, y, z)
+
+-- a refusal behind a value is the rest's
+tail_refused : (x : ℕ) (r : Reply (List ℕ)) (a b c : ℕ) → (x followed_by r) ≡ refusal a b c → r ≡ refusal a b c
+unfolding ◌followed_by◌
+tail_refused x (refusal p q d) a b c h = h
+tail_refused x (is ys) a b c h = absurd (refusal≢is a b c (x ∷ ys) (sym h))
 
 module _ (f : ℕ → Reply ℕ) where
   -- all give a value
@@ -80,6 +104,17 @@ module _ (f : ℕ → Reply ℕ) where
           → together (map f (upto i (suc d + m))) ≡ behind xs (together (map f (upto (i + suc d) m)))
       go x ys e q below = rw (suc-add d m, e, below, q, behind-one x ys (together (map f (upto (suc i + d) m))), add-suc i d, suc-add i d)
 
+  -- a refusal, whatever comes behind
+  stays_refused : (n i m a b c : ℕ) → together (map f (upto i n)) ≡ refusal a b c → together (map f (upto i (n + m))) ≡ refusal a b c
+  unfolding together ◌followed_by◌
+  stays_refused zero i m a b c h = absurd (refusal≢is a b c [] (sym h))
+  stays_refused (suc n) i m a b c h = rw (suc-add n m) (go (f i) h (stays_refused n (suc i) m a b c))
+    where
+      go : (r : Reply ℕ) → together (r ∷ map f (upto (suc i) n)) ≡ refusal a b c
+          → (together (map f (upto (suc i) n)) ≡ refusal a b c → together (map f (upto (suc i) (n + m))) ≡ refusal a b c) → together (r ∷ map f (upto (suc i) (n + m))) ≡ refusal a b c
+      go (refusal p q d) h below = h
+      go (is x) h below = rw (below (tail_refused x (together (map f (upto (suc i) n))) a b c h))
+
   module _ (i d : ℕ) (xs : List ℕ) (had : together (map f (upto i d)) ≡ is xs) where
     -- more values behind those
     pub more_values : (n : ℕ) (ys : List ℕ) → d ≤ n → together (map f (upto (i + d) (n - d))) ≡ is ys → together (map f (upto i n)) ≡ is (xs ++ ys)
@@ -88,12 +123,18 @@ module _ (f : ℕ → Reply ℕ) where
         let e : n ≡ d + (n - d) = omega arith in
         ap (λ (k : ℕ). together (map f (upto i k))) e ∙ in_two d i (n - d) xs had ∙ rw h
 
-    -- a refusal behind those
+    -- a refusal behind those: of the next, or among the next `m`
     pub then_refused : (n a b c : ℕ) → d < n → f (i + d) ≡ refusal a b c → together (map f (upto i n)) ≡ refusal a b c
     unfolding behind together
     then_refused n a b c l h =
         let e : n ≡ d + suc (n - suc d) = omega arith in
         ap (λ (k : ℕ). together (map f (upto i k))) e ∙ in_two d i (suc (n - suc d)) xs had ∙ rw h
+
+    pub some_refused : (m n a b c : ℕ) → d + m ≤ n → together (map f (upto (i + d) m)) ≡ refusal a b c → together (map f (upto i n)) ≡ refusal a b c
+    unfolding behind
+    some_refused m n a b c l h =
+        let e : n ≡ d + (m + (n - d - m)) = omega arith in
+        ap (λ (k : ℕ). together (map f (upto i k))) e ∙ in_two d i (m + (n - d - m)) xs had ∙ rw (stays_refused m (i + d) (n - d - m) a b c h)
 
   -- a refusal is the first refused request's own
   pub first-refusal : (i n a b c : ℕ) → together (map f (upto i n)) ≡ refusal a b c
@@ -116,8 +157,4 @@ module _ (f : ℕ → Reply ℕ) where
         where
           h' : ◌≡◌ {A = Reply ℕ} (refusal p q d) (refusal a b c)
           h' = same p q d a b c h
-      go (is x) e h below = later x e (below (tail (together (map f (upto (suc i) n))) refl h))
-        where
-          tail : (r : Reply (List ℕ)) → together (map f (upto (suc i) n)) ≡ r → (x followed_by r) ≡ refusal a b c → together (map f (upto (suc i) n)) ≡ refusal a b c
-          tail (refusal p q d) e h = e ∙ h
-          tail (is ys) e h = absurd (refusal≢is a b c (x ∷ ys) (sym h))
+      go (is x) e h below = later x e (below (tail_refused x (together (map f (upto (suc i) n))) a b c h))

@@ -1,6 +1,6 @@
 -- A column (document 02, order 8): the same field of records a to b - 1 of one entry, converted to 32 bits, as single requests give it; refusals 32 and 33.
 -- Assumes nothing.
-use Rattle.std.specs.Prelude.{ℕ, ◌-◌, ◌&&◌, List, [], ◌∷◌, ◌++◌, map, ◌≡◌, leb, ltb, length, drop}
+use Rattle.std.specs.Prelude.{ℕ, ◌-◌, ◌&&◌, List, [], ◌∷◌, ◌++◌, map, ◌≡◌, leb, ltb, length, drop, Result}
 use Rattle.layout.specs.Bytes.{within}
 use Rattle.layout.specs.Answer.{Answer, accepted, refused, none, need, Reply, refusal, is, ◌or_else◌, ◌before◌}
 use Rattle.layout.specs.Search.{upto}
@@ -8,7 +8,7 @@ use Rattle.layout.specs.Entries.{directory}
 use Rattle.layout.specs.Rules.{verdict}
 use Rattle.layout.specs.Fields.{Value, field_reply}
 use Rattle.layout.specs.Answers.{verdict_is}
-use Rattle.layout.specs.declared.Verdict.{Verdict}
+use Rattle.layout.specs.declared.Refusal.{Refusal}
 use Rattle.field_bits.specs.Bits.{bits_of}
 
 -- ---- a single request
@@ -64,6 +64,6 @@ column_in (refusal n p e) room = room
 column_in (is xs) room = xs ++ drop (length xs) room
 
 -- what is said, and what is in the buffer then
-pub record ColumnIs (reply : Reply (List ℕ)) (old new : List ℕ) (v : Verdict) : Type 0 where
+pub record ColumnIs (reply : Reply (List ℕ)) (old new : List ℕ) (v : Result (Unit {0}) Refusal) : Type 0 where
   pub told : verdict_is v ≡ refusal_of reply
   pub written : new ≡ column_in reply old

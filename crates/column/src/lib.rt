@@ -1,68 +1,47 @@
 // A column (document 02, order 8): the same field of up to 512 records of one entry, in 32 bits each, with one judgement and one walk.
 #![tactic(auto)]
 
-ghost use Rattle.std.specs.Prelude.{◌≡◌, ◌-◌, ◌≤◌, ◌<◌, length};
-ghost use Rattle.std.proofs.lemmas.List.Edits.{sets};
+ghost use Rattle.std.specs.Prelude.{◌≡◌, ◌-◌, ◌≤◌, length, IfOk};
 ghost use Rattle.layout.specs.Answers.{verdict_is};
-ghost use Rattle.layout.specs.Entries.{directory, at, start};
-ghost use Rattle.layout.specs.Records.{lengths};
-ghost use Rattle.layout.specs.States.{states_of};
-ghost use Rattle.records.specs.Open.{Open};
-ghost use Rattle.column.specs.Column.{request_refusal, column_reply, ColumnIs};
-ghost use Rattle.column.specs.Gathering.{Fits, set_reply};
+ghost use Rattle.fields.specs.Kinds.{narrow_number};
+ghost use Rattle.column.specs.Column.{column_reply, ColumnIs};
+ghost use Rattle.column.specs.Gathering.{kind_refusal, count_refusal, Allowed, entry_reply};
 
 mod gathering;
 
 use directory::Sets;
+use fields::{Kind, NarrowKind};
 use gathering::{Request, gather};
-use layout::Verdict;
+use layout::{Refusal, refuse};
 
-// Refusals 17, 19, 32 and 33, of a directory of so many entries and a buffer of so many places. The difference is taken where `from` is not above.
-fn check_request(
-    entries: usize,
-    entry: usize,
-    from: usize,
-    to: usize,
-    kind: usize,
-    places: usize,
-) -> Verdict
-    ensures { verdict_is result ≡ request_refusal entries entry from to kind places }
+// Refusals 17 and 19, of a directory of so many entries, and 32, of a kind that is not narrow.
+#[tactic(auto, using(crate::proofs::Requests::kinds), unfolding(layout::specs::Answers::verdict_is, crate::specs::Gathering::kind_refusal))]
+fn narrow_kind(entries: usize, entry: usize, kind: usize) -> Result<NarrowKind, Refusal>
+    ensures judged { verdict_is result ≡ kind_refusal entries entry kind }
+    ensures numbered { IfOk result (λ k. narrow_number k ≡ kind) }
 {
     if entries <= entry {
-        return Verdict::refuse(17, 0, 128);
+        return refuse(17, 0, Refusal::NO_ENTRY);
     }
-    if kind < 1 {
-        return Verdict::refuse(19, 0, entry);
+    match Kind::try_from(kind) {
+        Ok(Kind::Narrow(kind)) => Ok(kind),
+        Ok(_) => refuse(32, 0, Refusal::NO_ENTRY),
+        Err(_) => refuse(19, 0, entry),
     }
-    if 9 < kind {
-        return Verdict::refuse(19, 0, entry);
-    }
-    if 7 < kind {
-        return Verdict::refuse(32, 0, 128);
-    }
-    if to < from {
-        return Verdict::refuse(32, 0, 128);
-    }
-    let count = to - from;
-    if 512 < count {
-        return Verdict::refuse(32, 0, 128);
-    }
-    if places < count {
-        return Verdict::refuse(33, 0, 128);
-    }
-    Verdict::Accepted
 }
 
-// Numbers, from the first place on.
-fn put_values(room: &mut [u32], values: &[u32])
-    requires { length values.now ≤ length room.old }
-    ensures { room.new ≡ sets room.old 0 values.now }
+// Refusals 32 and 33, of the records asked for and a buffer of so many places. The difference is taken where `from` is not above.
+#[tactic(auto, unfolding(layout::specs::Answers::verdict_is, crate::specs::Gathering::count_refusal))]
+fn check_count(request: Request, places: usize) -> Result<(), Refusal>
+    ensures { verdict_is result ≡ count_refusal request.from request.to places }
 {
-    let mut i = 0;
-    while i < values.len() {
-        room[i] = values[i];
-        i += 1;
+    if request.to < request.from || 512 < request.to - request.from {
+        return refuse(32, 0, Refusal::NO_ENTRY);
     }
+    if places < request.to - request.from {
+        return refuse(33, 0, Refusal::NO_ENTRY);
+    }
+    Ok(())
 }
 
 // The column, gathered into room of our own and put into the lent one only where nothing is refused.
@@ -70,22 +49,20 @@ fn put_gathered(
     room: &mut [u32],
     column: &mut [u32],
     p: &[u8],
-    sets: Sets,
-    entry: usize,
+    sets: &Sets,
     request: Request,
-) -> Verdict
-    requires { Open p.now sets × (entry < sets.entries) × Fits request (length column.old) × (request.to - request.from ≤ length room.old) }
-    ensures { ColumnIs (set_reply p.now entry request (start (at (directory p.now) entry)) (lengths (states_of p.now (directory p.now)) (at (directory p.now) entry))) room.old room.new result }
+) -> Result<(), Refusal>
+    requires { Allowed p.now sets.now request (length column.old) × (request.to - request.from ≤ length room.old) }
+    ensures { ColumnIs (entry_reply p.now request) room.old room.new result }
 {
-    let gathered = gather(column, p, sets, entry, request);
-    if let Verdict::Refused(refusal) = gathered {
-        return Verdict::Refused(refusal);
-    }
-    put_values(room, &column[..request.to - request.from]);
-    Verdict::Accepted
+    gather(column, p, sets, request)?;
+    let count = request.to - request.from;
+    room[..count].copy_from_slice(&column[..count]);
+    Ok(())
 }
 
 // The column, put into a lent buffer. Nothing is written where anything is refused, and nothing where no record is asked for.
+// What is asked for comes number by number, as in the C interface's call.
 pub fn put_column(
     room: &mut [u32],
     p: &[u8],
@@ -94,28 +71,22 @@ pub fn put_column(
     to: usize,
     offset: usize,
     kind: usize,
-) -> Verdict
+) -> Result<(), Refusal>
     ensures { ColumnIs (column_reply p.now entry from to offset kind (length room.old)) room.old room.new result }
 {
-    let opened = opening::open_headers(p, p.len() as u64);
-    let verdict = opening::judge_opened(p, opened);
-    if let Verdict::Refused(refusal) = verdict {
-        return Verdict::Refused(refusal);
-    }
-    let sets = opened.sets;
-    let checked = check_request(sets.entries, entry, from, to, kind, room.len());
-    if let Verdict::Refused(refusal) = checked {
-        return Verdict::Refused(refusal);
-    }
-    if from == to {
-        return Verdict::Accepted;
-    }
+    let opened = opening::open_product(p)?;
+    let kind = narrow_kind(opened.sets.entries, entry, kind)?;
     let request = Request {
+        entry,
         from,
         to,
         offset,
         kind,
     };
+    check_count(request, room.len())?;
+    if from == to {
+        return Ok(());
+    }
     let mut column = [0u32; 512];
-    put_gathered(room, &mut column, p, sets, entry, request)
+    put_gathered(room, &mut column, p, &opened.sets, request)
 }

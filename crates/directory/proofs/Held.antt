@@ -15,6 +15,8 @@ use Rattle.layout.specs.Answers.{padded, type_of, count_of, record_size_of}
 use Rattle.layout.proofs.Laws.{find-before, not-not}
 use Rattle.layout.proofs.Sound.{length-entries, at-entries}
 use Rattle.dsd.specs.declared.Entry.{Entry as HeldEntry}
+use Rattle.dsd.specs.declared.Role.{Role}
+use Rattle.dsd.specs.declared.Role.TheVariants.{Other}
 use Rattle.dsd.specs.Held.{held_of, view_of, over_place, role_of, Read}
 use Rattle.dsd.proofs.Views.{turn_held, over_held, held-non_empty}
 use Rattle.directory.specs.Numbers.{sets_of, held_start, held_extent, held_role, held_sets}
@@ -31,9 +33,9 @@ module _ (b : List ℕ) (from n i : ℕ) (inside : i < n) (h : HeldEntry) (read 
   at-is : at (entries_from b from n) i ≡ entry_from b from i
   at-is = at-entries b from n i inside
 
-  pub over_is : {over : ℕ} → over ≡ over_place (view_of h) → eqb over 0 ≡ not (over_at (entries_from b from n) i)
+  pub over_is : {over : Bool} → over ≡ not (eqb (over_place (view_of h)) 0) → not over ≡ not (over_at (entries_from b from n) i)
   unfolding over_at
-  over_is e = rw (e, held-is, over_held (entry_from b from i), at-is) (sym (not-not (eqb (over_place (entry_from b from i)) 0)))
+  over_is e = ap not (e ∙ rw (held-is, over_held (entry_from b from i), at-is))
 
   pub fits-is : {fits : Bool} → fits ≡ numbers_fit (view_of h) → fits ≡ not (unfit_at (entries_from b from n) i)
   unfolding unfit_at
@@ -54,10 +56,10 @@ module _ {A : Type 0} (g : Entry → A) (z : A) (b : List ℕ) (from n : ℕ) wh
   unfolding entries_from
   all_held i e h = h ∙ ap (λ (k : ℕ). padded 128 z (map of_entry (upto 0 k))) e ∙ ap (padded 128 z) (sym (map-map g (entry_from b from) (upto 0 n)))
 
-pub all_read : (b : List ℕ) (from n : ℕ) {types offsets sizes counts roles : List ℕ} {record-sizes : List ℤ}
+pub all_read : (b : List ℕ) (from n : ℕ) {types offsets sizes counts : List ℕ} {record-sizes : List ℤ} {roles : List Role}
     → types ≡ padded 128 0 (map type_of (entries_from b from n)) → offsets ≡ padded 128 0 (map held_start (entries_from b from n))
     → sizes ≡ padded 128 0 (map held_extent (entries_from b from n)) → counts ≡ padded 128 0 (map count_of (entries_from b from n))
-    → record-sizes ≡ padded 128 (pos 0) (map record_size_of (entries_from b from n)) → roles ≡ padded 128 0 (map held_role (entries_from b from n))
+    → record-sizes ≡ padded 128 (pos 0) (map record_size_of (entries_from b from n)) → roles ≡ padded 128 Other (map held_role (entries_from b from n))
     → ◌≡◌ {A = Sets}
     (record { entries = n; types = types; offsets = offsets; sizes = sizes; counts = counts; record_sizes = record-sizes; roles = roles })
     (held_sets (entries_from b from n))

@@ -1,5 +1,6 @@
 -- Rules 7 to 14 put together from what the checks answer, and what rules 8 and 10 give to those after them: only entries with a set have a size.
 -- Assumes nothing.
+use Rattle.std.specs.Prelude.{Result}
 use Prim.Native.Nat.{ℕ, zero, suc, ◌+◌, ◌*◌, ◌-◌, ◌≤◌, ◌<◌}
 use mathlib.Core.Bool.{Bool, true, false, cond, ◌&&◌, ◌||◌, not, and-false}
 use mathlib.Core.List.{List}
@@ -18,7 +19,7 @@ use Rattle.layout.specs.Text.{layout, line_classes, value_classes, value_width, 
 use Rattle.layout.specs.Lines.{mph}
 use Rattle.layout.specs.Answer.{accepted, refused, need, ◌or_else◌}
 use Rattle.layout.specs.Answers.{verdict_is, directory_of}
-use Rattle.layout.specs.declared.Verdict.{Verdict}
+use Rattle.layout.specs.declared.Refusal.{Refusal}
 use Rattle.layout.specs.Search.{first, laid_out}
 use Rattle.layout.specs.Sph.{sph_lines}
 use Rattle.layout.specs.Entries.{Entry, eq_z, largest_signed, header_number, num_data_sets, headers_end, entries, dsds_at, dsd_at, dsd_bytes, entry_of, entries_from, entry_at, directory, at, start, extent, non_empty, is_data, is_reference, all_zero, in_range, set_fits, numbers_fit}
@@ -258,7 +259,7 @@ module _ (b : List ℕ) (end k : ℕ) (headers : Headers b end k) where
     numbers-read = numbers-are b dsds k (dsds_of headers) r counted n (none_over b dsds k (dsds_of headers) r counted n numbers)
 
     pub places_are : (offsets sizes : List ℕ) → offsets ≡ (held_sets (directory b)).offsets → sizes ≡ (held_sets (directory b)).sizes
-        → (v : Verdict) → Placed offsets sizes k end n v → verdict_is v ≡ place_rules (directory b) (headers_end b) n
+        → (v : Result (Unit {0}) Refusal) → Placed offsets sizes k end n v → verdict_is v ≡ place_rules (directory b) (headers_end b) n
     unfolding text_rules number_rules
     places_are offsets sizes o s v p =
         let eight = ((or_else_accepts (rule7 b n) (rule8 b n)).0 text).1 in

@@ -1,12 +1,12 @@
 -- What the checks of the directory answer (document 01, rules 7 to 14), over the bytes at hand and the length of the product.
 -- Assumes nothing.
-use Rattle.std.specs.Prelude.{ℕ, ◌+◌, ◌*◌, ◌-◌, ◌≤◌, ◌<◌, Bool, not, List, ◌≡◌, eqb, length}
+use Rattle.std.specs.Prelude.{ℕ, ◌+◌, ◌*◌, ◌-◌, ◌≤◌, ◌<◌, Bool, not, List, Result, ◌≡◌, eqb, length}
 use Rattle.layout.specs.Answer.{Answer, ◌or_else◌}
 use Rattle.layout.specs.Search.{first, find}
 use Rattle.layout.specs.Entries.{Entry, headers_end, entries, dsds_at, at, numbers_fit}
 use Rattle.layout.specs.Rules.{rule7, rule8, rule9, rule10, data_sets, rule11, rule12_at, rule13_at, rule14_at}
 use Rattle.layout.specs.Answers.{verdict_is}
-use Rattle.layout.specs.declared.Verdict.{Verdict}
+use Rattle.layout.specs.declared.Refusal.{Refusal}
 use Rattle.dsd.specs.Held.{over_place, held_of, view_of, SpareByFirst}
 use Rattle.placement.specs.Sets.{Held}
 use Rattle.directory.specs.Numbers.{held_sets}
@@ -69,5 +69,5 @@ unfoldable pub place_rules : List Entry → ℕ → ℕ → Answer
 place_rules ds h n = first (rule12_at ds h n) 0 (length ds) or_else (first (rule13_at ds) 0 (length ds) or_else first (rule14_at ds) h (n - h))
 
 -- v is what they answer of all entries whose offsets and sizes are these
-pub record Placed (offsets sizes : List ℕ) (k h n : ℕ) (v : Verdict) : Type 0 where
+pub record Placed (offsets sizes : List ℕ) (k h n : ℕ) (v : Result (Unit {0}) Refusal) : Type 0 where
   pub answer : (ds : List Entry) → Held ds offsets sizes → length ds ≡ k → verdict_is v ≡ place_rules ds h n

@@ -7,16 +7,18 @@ ghost use Rattle.layout.specs.Bytes.{part};
 ghost use Rattle.layout.specs.Entries.{largest_signed, entries_from, directory};
 ghost use Rattle.layout.specs.Lines.{size_of_dsd};
 ghost use Rattle.writing.specs.Put.{Put};
-ghost use Rattle.directory.specs.Numbers.{together, no_sets, held_sets, directory_with};
+ghost use Rattle.directory.specs.Numbers.{no_sets, held_sets, directory_with};
 ghost use Rattle.directory.specs.Texts.{texts_from, Room};
 ghost use Rattle.directory.specs.Checks.{Dsds, SparesByFirst, Counted, ReadFrom, text_rules, number_rules, Placed};
 
-use dsd::Entry;
-use layout::{Directory, Verdict};
+use dsd::{Entry, Role};
+use layout::{Directory, Refusal, refuse};
+use placement::Extents;
 use values::MainHeader;
 use writing::{put_text, put_zeros};
 
-// The numbers and roles of up to 128 entries held together, unused places zero.
+// The numbers and roles of up to 128 entries held together, unused places zero and of no role. Types are the DSDs' own bytes, as hosts are handed them. The
+// arrays are the directory's own, copied as they are; that `entries` is at most 128 is no invariant, since `sets_of` takes any list of entries.
 #[derive(Clone, Copy)]
 pub struct Sets {
     pub entries: usize,
@@ -25,33 +27,11 @@ pub struct Sets {
     pub sizes: [u64; 128],
     pub counts: [u64; 128],
     pub record_sizes: [i64; 128],
-    pub roles: [u8; 128],
+    pub roles: [Role; 128],
 }
 
 impl Sets {
-    pub fn of(
-        entries: usize,
-        types: [u8; 128],
-        offsets: [u64; 128],
-        sizes: [u64; 128],
-        counts: [u64; 128],
-        record_sizes: [i64; 128],
-        roles: [u8; 128],
-    ) -> Sets
-        ensures { result ≡ together entries types offsets sizes counts record_sizes roles }
-    {
-        Sets {
-            entries,
-            types,
-            offsets,
-            sizes,
-            counts,
-            record_sizes,
-            roles,
-        }
-    }
-
-    // What stands beside a refusal.
+    // Of no entry.
     pub fn none() -> Sets
         ensures { result ≡ no_sets }
     {
@@ -62,19 +42,19 @@ impl Sets {
             sizes: [0; 128],
             counts: [0; 128],
             record_sizes: [0; 128],
-            roles: [0; 128],
+            roles: [Role::Other; 128],
         }
     }
 }
 
 // Rules 7 and 8: the SPH lines before the DSDs, and the DSDs.
-pub fn check_text(p: &[u8], dsds: usize, entries: usize) -> Verdict
+pub fn check_text(p: &[u8], dsds: usize, entries: usize) -> Result<(), Refusal>
     requires { Dsds p.now dsds entries }
     ensures { (n : ℕ) → verdict_is result ≡ text_rules p.now n }
 {
     let bad = sph::first_bad_line(p, MainHeader::SIZE, dsds);
     if bad != dsds {
-        return Verdict::refuse(7, bad as u64, 128);
+        return refuse(7, bad as u64, Refusal::NO_ENTRY);
     }
     lines::dsds_check(p, dsds, entries)
 }
@@ -102,40 +82,29 @@ fn row_with(row: usize, i: usize, passes: bool) -> usize
     i
 }
 
-// One reading of n DSDs from a place on, whatever their bytes are, but that one whose first byte is a blank is a spare. The arrays are lent: one that a
-// call answers is copied at each return.
-pub fn read_sets(
-    p: &[u8],
-    from: usize,
-    n: usize,
-    types: &mut [u8; 128],
-    offsets: &mut [u64; 128],
-    sizes: &mut [u64; 128],
-    counts: &mut [u64; 128],
-    record_sizes: &mut [i64; 128],
-    roles: &mut [u8; 128],
-) -> Reading
-    requires { (from + size_of_dsd * n ≤ length p.now) × (n ≤ 128) × SparesByFirst p.now from n × (together 0 types.old offsets.old sizes.old counts.old record_sizes.old roles.old ≡ no_sets) }
+// One reading of n DSDs from a place on, whatever their bytes are, but that one whose first byte is a blank is a spare. The numbers are lent: what a call
+// answers is copied at each return.
+pub fn read_sets(p: &[u8], from: usize, n: usize, sets: &mut Sets) -> Reading
+    requires { (from + size_of_dsd * n ≤ length p.now) × (n ≤ 128) × SparesByFirst p.now from n × (sets.old ≡ no_sets) }
     ensures counted { Counted (entries_from p.now from n) result }
-    ensures held { together n types.new offsets.new sizes.new counts.new record_sizes.new roles.new ≡ held_sets (entries_from p.now from n) }
+    ensures held { sets.new ≡ held_sets (entries_from p.now from n) }
 {
     let mut within = 0;
     let mut fitting = 0;
     let mut counted = 0;
-    let mut i = 0;
-    while i < n {
+    for i in 0..n {
         let entry = Entry::at(p, from + Entry::SIZE * i);
-        types[i] = entry.ds_type;
-        offsets[i] = entry.offset.magnitude;
-        sizes[i] = entry.size.magnitude;
-        counts[i] = entry.count.magnitude;
-        record_sizes[i] = entry.record_size.whole();
-        roles[i] = entry.role();
-        within = row_with(within, i, entry.over() == 0);
+        sets.types[i] = entry.ds_type;
+        sets.offsets[i] = entry.offset.magnitude;
+        sets.sizes[i] = entry.size.magnitude;
+        sets.counts[i] = entry.count.magnitude;
+        sets.record_sizes[i] = entry.record_size.whole();
+        sets.roles[i] = entry.role();
+        within = row_with(within, i, !entry.is_over());
         fitting = row_with(fitting, i, entry.numbers_fit());
         counted = entry.counted_with(counted);
-        i += 1;
     }
+    sets.entries = n;
     Reading {
         within,
         fitting,
@@ -160,27 +129,27 @@ pub fn check_numbers<'a>(
     entries: usize,
     reading: Reading,
     offsets: &'a [u64; 128],
-) -> Verdict
+) -> Result<(), Refusal>
     requires { Dsds p.now dsds entries × ReadFrom (directory p.now) reading offsets.now }
     ensures { (n : ℕ) → verdict_is result ≡ number_rules p.now n }
 {
     let within = reading.within;
     if within != entries {
         let start = dsds + Entry::SIZE * within;
-        return Verdict::refuse(9, (start + over_place(offsets[within])) as u64, within);
+        return refuse(9, (start + over_place(offsets[within])) as u64, within);
     }
     let fitting = reading.fitting;
     if fitting != entries {
-        return Verdict::refuse(10, (dsds + Entry::SIZE * fitting) as u64, fitting);
+        return refuse(10, (dsds + Entry::SIZE * fitting) as u64, fitting);
     }
     let data_sets = text::number_at(p, 1194, 11);
     if dsd::is_negative(data_sets) {
-        return Verdict::refuse(11, 1194, 128);
+        return refuse(11, 1194, Refusal::NO_ENTRY);
     }
     if data_sets.magnitude != reading.counted as u64 {
-        return Verdict::refuse(11, 1194, 128);
+        return refuse(11, 1194, Refusal::NO_ENTRY);
     }
-    Verdict::Accepted
+    Ok(())
 }
 
 // Rules 12 to 14, by the numbers of the entries. Where the sets stand one behind the other, in the order of the entries or in another, all three hold,
@@ -191,29 +160,31 @@ pub fn check_places<'a>(
     entries: usize,
     headers_end: u64,
     length: u64,
-) -> Verdict
+) -> Result<(), Refusal>
     requires { entries ≤ 128 }
     ensures { Placed offsets.now sizes.now entries headers_end length result }
 {
-    if placement::are_joined(offsets, sizes, entries, headers_end, length) {
-        return Verdict::Accepted;
+    let extents = Extents {
+        offsets,
+        sizes,
+        entries,
+    };
+    if extents.are_joined(headers_end, length) {
+        return Ok(());
     }
-    if file_order::are_joined_in_file_order(offsets, sizes, entries, headers_end, length) {
-        return Verdict::Accepted;
+    if file_order::are_joined_in_file_order(extents, headers_end, length) {
+        return Ok(());
     }
-    let outside = placement::first_outside(offsets, sizes, entries, headers_end, length);
-    if outside != entries {
-        return Verdict::refuse(12, offsets[outside], outside);
+    if let Some(outside) = extents.first_outside(headers_end, length) {
+        return refuse(12, offsets[outside], outside);
     }
-    let overlapping = placement::first_overlapping(offsets, sizes, entries);
-    if overlapping != entries {
-        return Verdict::refuse(13, offsets[overlapping], overlapping);
+    if let Some(overlapping) = extents.first_overlapping() {
+        return refuse(13, offsets[overlapping], overlapping);
     }
-    let uncovered = placement::first_uncovered(offsets, sizes, entries, headers_end, length);
-    if uncovered != length {
-        return Verdict::refuse(14, uncovered, 128);
+    if let Some(uncovered) = extents.first_uncovered(headers_end, length) {
+        return refuse(14, uncovered, Refusal::NO_ENTRY);
     }
-    Verdict::Accepted
+    Ok(())
 }
 
 // A text of at most 62 bytes out of lent ones, by way of an array made here: straight into a lent room, the copy would first ask whether they overlap.
@@ -241,11 +212,9 @@ fn put_texts(
     ensures { Put (128 * width) (texts_from p.now from n place width) room.old room.new at result }
 {
     let mut next = at;
-    let mut i = 0;
-    while i < n {
+    for i in 0..n {
         let start = from + Entry::SIZE * i + place;
         next = put_lent(room, next, p, start, width);
-        i += 1;
     }
     let end = at + 128 * width;
     put_zeros(room, next, end - next)
@@ -268,31 +237,31 @@ pub fn put_filenames(room: &mut [u8], at: usize, p: &[u8], from: usize, n: usize
 }
 
 // The directory of the DSDs that begin at a place, whose numbers are at hand: a product's, or those that a host holds.
-pub fn directory_from(p: &[u8], from: usize, sets: Sets) -> Directory
-    requires { (from + size_of_dsd * sets.entries ≤ length p.now) × (sets.entries ≤ 128) }
-    ensures { result ≡ directory_with sets (entries_from p.now from sets.entries) }
+pub fn directory_from(p: &[u8], from: usize, sets: &Sets) -> Directory
+    requires { (from + size_of_dsd * sets.now.entries ≤ length p.now) × (sets.now.entries ≤ 128) }
+    ensures { result ≡ directory_with sets.now (entries_from p.now from sets.now.entries) }
 {
     let entries = sets.entries;
-    let types = sets.types;
-    let offsets = sets.offsets;
-    let sizes = sets.sizes;
-    let counts = sets.counts;
-    let record_sizes = sets.record_sizes;
     let mut names = [0u8; 3584];
     let mut filenames = [0u8; 7936];
     let mut ranks = [0u64; 128];
     put_names(&mut names, 0, p, from, entries);
     put_filenames(&mut filenames, 0, p, from, entries);
-    ranks::rank_sets(&offsets, &sizes, entries, &mut ranks);
+    let extents = Extents {
+        offsets: &sets.offsets,
+        sizes: &sets.sizes,
+        entries,
+    };
+    ranks::rank_sets(extents, &mut ranks);
     Directory {
         entries,
-        types,
+        types: sets.types,
         names,
         filenames,
-        offsets,
-        sizes,
-        counts,
-        record_sizes,
+        offsets: sets.offsets,
+        sizes: sets.sizes,
+        counts: sets.counts,
+        record_sizes: sets.record_sizes,
         ranks,
     }
 }

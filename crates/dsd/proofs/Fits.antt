@@ -1,9 +1,7 @@
 -- The turns of rule 10's test on one entry, which sets are counted, and what the view of a held entry shows of its name.
 -- Assumes nothing.
-use Prim.Native.Nat.{ℕ, ◌≤◌, ◌<◌}
 use mathlib.Core.Bool.{Bool, true, false, cond, ◌&&◌, ◌||◌, not, and-true, and-false, and_assoc}
-use mathlib.Core.Logic.{◌⊎◌, inl, inr}
-use mathlib.Core.Path.{◌≡◌, sym, ◌∙◌}
+use mathlib.Core.Path.{◌≡◌, refl, sym, ◌∙◌}
 use native.Mathlib.Omega.{arith}
 use lib.Dec.{ltb, eqb}
 use lib.IntN.{pos, negsuc}
@@ -11,11 +9,13 @@ use lib.Signed.{le_z, lt_z}
 use borrow.Author.Tests.{eq-eqb, ne_eqb, lt-ltb, le-ltb, le-leb, lt-leb}
 use Rattle.layout.specs.Text.{whole}
 use Rattle.layout.specs.Entries.{Entry, eq_z, kind_of, is_data, non_empty, is_reference, all_zero, in_range, is_fixed, is_variable, is_states, set_fits, numbers_fit}
-use Rattle.layout.proofs.Laws.{lt-or-le}
-use Rattle.dsd.specs.Held.{number_from, view_of, role_of}
+use Rattle.dsd.specs.declared.Kind.TheVariants.{Nadir, Limb, Occultation, Monitoring}
+use Rattle.dsd.specs.declared.Role.{Role}
+use Rattle.dsd.specs.declared.Role.TheVariants.{Other, Variable, States}
+use Rattle.dsd.specs.Held.{kind_number, role_number, of_variable, of_states, number_from, view_of, role_of}
 use Rattle.dsd.specs.declared.Entry.{Entry as HeldEntry}
 use Rattle.dsd.proofs.Numbers.{is_zero, above, from_one, plus, both_pass, is-minus-one}
-use Rattle.dsd.proofs.Names.{kind_role, states_by_role, role_text}
+use Rattle.dsd.proofs.Names.{states_number, kind_role, states_by_role, role_text}
 
 -- ---- a set whose numbers are in range
 
@@ -81,29 +81,21 @@ module _ (e : Entry) where
 -- ---- the view's name
 
 module _ (h : HeldEntry) where
-  view_kind : kind_of (view_of h) ≡ cond (ltb h.name_role 5) h.name_role 0
-  unfolding view_of
-  view_kind = kind_role (view_of h) ∙ rw (role_text h.name_role) (go h.name_role (lt-or-le h.name_role 5) (lt-or-le h.name_role 6))
+  pub view_named : ltb 0 (kind_of (view_of h)) ≡ of_variable h.name_role
+  unfolding view_of role_number kind_number of_variable
+  view_named = rw (kind_role (view_of h), role_text h.name_role) (go h.name_role)
     where
-      go : (r : ℕ) → (r < 5) ⊎ (5 ≤ r) → (r < 6) ⊎ (6 ≤ r) → cond (ltb (cond (ltb r 6) r 0) 5) (cond (ltb r 6) r 0) 0 ≡ cond (ltb r 5) r 0
-      go r (inl l) m = rw (lt-ltb r 6 (omega arith), lt-ltb r 5 l)
-      go r (inr l) (inl m) = rw (lt-ltb r 6 m, le-ltb r 5 l)
-      go r (inr l) (inr m) = rw (le-ltb r 6 m, le-ltb r 5 l)
+      go : (r : Role) → ltb 0 (cond (ltb (role_number r) 5) (role_number r) 0) ≡ of_variable r
+      go (Variable Nadir) = refl
+      go (Variable Limb) = refl
+      go (Variable Occultation) = refl
+      go (Variable Monitoring) = refl
+      go States = refl
+      go Other = refl
 
-  view_states : is_states (view_of h) ≡ (eqb h.ds_type 65 && eqb h.name_role 5)
+  view_states : is_states (view_of h) ≡ (eqb h.ds_type 65 && of_states h.name_role)
   unfolding view_of
-  view_states = states_by_role (view_of h) ∙ rw (role_text h.name_role, go h.name_role (lt-or-le h.name_role 6))
-    where
-      go : (r : ℕ) → (r < 6) ⊎ (6 ≤ r) → eqb (cond (ltb r 6) r 0) 5 ≡ eqb r 5
-      go r (inl m) = rw (lt-ltb r 6 m)
-      go r (inr m) = rw (le-ltb r 6 m, ne_eqb r 5 (λ e. omega arith))
-
-  pub view_named : ltb 0 (kind_of (view_of h)) ≡ (ltb 0 h.name_role && ltb h.name_role 5)
-  view_named = rw view_kind (go h.name_role (lt-or-le h.name_role 5))
-    where
-      go : (r : ℕ) → (r < 5) ⊎ (5 ≤ r) → ltb 0 (cond (ltb r 5) r 0) ≡ (ltb 0 r && ltb r 5)
-      go r (inl l) = rw (lt-ltb r 5 l, and-true)
-      go r (inr l) = rw (le-ltb r 5 l, and-false)
+  view_states = rw (states_by_role (view_of h), role_text h.name_role, states_number h.name_role)
 
   -- all but the name passes, t says of the name
   pub all_pass : {t : Bool} → h.size.minus ≡ false → (h.size.magnitude ≡ 0 → ⊥) → h.record_size.minus ≡ true → h.record_size.magnitude ≡ 1 → h.ds_type ≡ 77
@@ -112,29 +104,25 @@ module _ (h : HeldEntry) where
   all_pass s f m o t =
       rw (above (number_from h.size), s, lt-ltb 0 h.size.magnitude (omega arith), is-minus-one (number_from h.record_size), m, eq-eqb h.record_size.magnitude 1 o, eq-eqb h.ds_type 77 t)
 
-  -- a variable set has one of the four names
-  variable_named : is_variable (view_of h) ≡ true → ltb h.name_role 5 ≡ true
-  unfolding is_variable
-  variable_named v =
-      let named = (all_four (lt_z (pos 0) (whole (view_of h).size)) (eq_z (whole (view_of h).record_size) (negsuc 0)) (eqb (view_of h).type 77) (ltb 0 (kind_of (view_of h))) v).2 in
-      (both_pass (ltb 0 h.name_role) (ltb h.name_role 5) (sym view_named ∙ named)).1
-
   pub role_variable : is_variable (view_of h) ≡ true → h.name_role ≡ role_of (view_of h)
-  unfolding role_of
-  role_variable v = rw (v, view_kind, variable_named v)
+  unfolding role_of view_of
+  role_variable v = rw (v, role_text h.name_role)
 
   module _ (v : is_variable (view_of h) ≡ false) where
-    pub role_other : (h.ds_type ≡ 65 → ⊥) → 0 ≡ role_of (view_of h)
+    pub role_other : (h.ds_type ≡ 65 → ⊥) → Other ≡ role_of (view_of h)
     unfolding role_of
     role_other n = rw (v, view_states, ne_eqb h.ds_type 65 n)
 
-    pub role_states : h.ds_type ≡ 65 → h.name_role ≡ 5 → 5 ≡ role_of (view_of h)
+    pub role_states : h.ds_type ≡ 65 → of_states h.name_role ≡ true → States ≡ role_of (view_of h)
     unfolding role_of
-    role_states t n = rw (v, view_states, eq-eqb h.name_role 5 n, eq-eqb h.ds_type 65 t)
+    role_states t n = rw (v, view_states, eq-eqb h.ds_type 65 t, n)
 
-    pub role_none : (h.name_role ≡ 5 → ⊥) → 0 ≡ role_of (view_of h)
+    pub role_none : of_states h.name_role ≡ false → Other ≡ role_of (view_of h)
     unfolding role_of
-    role_none n = rw (v, view_states, ne_eqb h.name_role 5 n, and-false)
+    role_none n = rw (v, view_states, n, and-false)
+
+-- what a set is, in the turns of the test
+pub ruleset what_it_is = (role_variable, role_other, role_states, role_none)
 
 -- ---- rule 11: a set of one byte or more, by the sign and the magnitude of its size; t says whether it is a set
 

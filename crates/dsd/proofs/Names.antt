@@ -1,17 +1,58 @@
 -- The names that rules 10, 15 and 16 ask for: a name's role, and a name of a role.
 -- Assumes nothing.
-use Prim.Native.Nat.{ℕ, ◌<◌}
+use Prim.Native.Nat.{ℕ, ◌+◌, ◌<◌}
 use mathlib.Core.Bool.{Bool, true, false, cond, ◌&&◌}
 use mathlib.Core.List.{List, [], ◌∷◌}
-use mathlib.Core.Logic.{⊎_elim}
 use mathlib.Core.Path.{◌≡◌, refl, sym, ◌∙◌}
 use native.Mathlib.Omega.{arith}
+use denote.Enum.Declared.{tag_of}
 use lib.Dec.{ltb, eqb, lit<}
-use borrow.Author.Tests.{ne_eqb, eqb-true, eqb-false, lt-ltb, le-ltb}
-use Rattle.layout.specs.Bytes.{bytes}
-use Rattle.layout.specs.Entries.{Entry, called, kind_of, is_states}
-use Rattle.layout.proofs.Laws.{lt-or-le}
-use Rattle.dsd.specs.Held.{name_role, name_text}
+use borrow.Author.Tests.{ne_eqb, eqb-true, lt-ltb}
+use Rattle.layout.specs.Bytes.{bytes, within}
+use Rattle.layout.specs.Entries.{Entry, called, kind_of, is_variable, is_states}
+use Rattle.layout.proofs.Tests.{variable_T, variable_kind}
+use Rattle.dsd.specs.contracts.Kind.{the_type}
+use Rattle.dsd.specs.declared.Kind.{Kind}
+use Rattle.dsd.specs.declared.Kind.TheVariants.{Nadir, Limb, Occultation, Monitoring}
+use Rattle.dsd.specs.declared.Role.{Role}
+use Rattle.dsd.specs.declared.Role.TheVariants.{Other, Variable, States}
+use Rattle.dsd.specs.Held.{kind_number, role_number, of_variable, of_states, name_role, name_text, role_of}
+
+-- ---- numbers
+
+-- a kind as a number is its number
+pub kind_tag : (k : Kind) → tag_of the_type k + 1 ≡ kind_number k
+unfolding kind_number
+kind_tag Nadir = refl
+kind_tag Limb = refl
+kind_tag Occultation = refl
+kind_tag Monitoring = refl
+
+pub kind_range : (k : Kind) → (0 < kind_number k) × (kind_number k < 5)
+unfolding kind_number
+kind_range Nadir = (lit< tt, lit< tt)
+kind_range Limb = (lit< tt, lit< tt)
+kind_range Occultation = (lit< tt, lit< tt)
+kind_range Monitoring = (lit< tt, lit< tt)
+
+-- a variable set is one of the roles 1 to 4, the states are role 5
+pub variable_number : (r : Role) → of_variable r ≡ within 1 4 (role_number r)
+unfolding of_variable role_number kind_number
+variable_number (Variable Nadir) = refl
+variable_number (Variable Limb) = refl
+variable_number (Variable Occultation) = refl
+variable_number (Variable Monitoring) = refl
+variable_number States = refl
+variable_number Other = refl
+
+pub states_number : (r : Role) → of_states r ≡ eqb (role_number r) 5
+unfolding of_states role_number kind_number
+states_number (Variable Nadir) = refl
+states_number (Variable Limb) = refl
+states_number (Variable Occultation) = refl
+states_number (Variable Monitoring) = refl
+states_number States = refl
+states_number Other = refl
 
 -- ---- roles
 
@@ -25,17 +66,17 @@ apart (z ∷ name) x y xs ys n h = go (eqb z x) refl h
     go true e h = let q : z ≡ x = eqb-true z x e in rw (ne_eqb z y (λ w. n (sym q ∙ w)))
     go false e h = let z : ◌≡◌ {A = ℕ} 0 1 = cc in absurd (omega arith)
 
-abbrev role : Bool → Bool → Bool → Bool → Bool → ℕ
-role n l o m s = cond n 1 (cond l 2 (cond o 3 (cond m 4 (cond s 5 0))))
+abbrev role : Bool → Bool → Bool → Bool → Bool → Role
+role n l o m s = cond n (Variable Nadir) (cond l (Variable Limb) (cond o (Variable Occultation) (cond m (Variable Monitoring) (cond s States Other))))
 
--- a kind is a role below 5
-pub kind_role : (e : Entry) → kind_of e ≡ cond (ltb (name_role e.name) 5) (name_role e.name) 0
-unfolding kind_of name_role
+-- a kind is a role whose number is below 5
+pub kind_role : (e : Entry) → kind_of e ≡ cond (ltb (role_number (name_role e.name)) 5) (role_number (name_role e.name)) 0
+unfolding kind_of name_role role_number kind_number
 kind_role e =
     go (called e.name (bytes "NADIR")) (called e.name (bytes "LIMB")) (called e.name (bytes "OCCULTATION")) (called e.name (bytes "MONITORING"))
     (called e.name (bytes "STATES"))
   where
-    go : (n l o m s : Bool) → cond n 1 (cond l 2 (cond o 3 (cond m 4 0))) ≡ cond (ltb (role n l o m s) 5) (role n l o m s) 0
+    go : (n l o m s : Bool) → cond n 1 (cond l 2 (cond o 3 (cond m 4 0))) ≡ cond (ltb (role_number (role n l o m s)) 5) (role_number (role n l o m s)) 0
     go true l o m s = refl
     go false true o m s = refl
     go false false true m s = refl
@@ -44,15 +85,15 @@ kind_role e =
     go false false false false false = refl
 
 -- the states' name is the one of role 5
-pub states_role : (name : List ℕ) → called name (bytes "STATES") ≡ eqb (name_role name) 5
-unfolding name_role
+pub states_role : (name : List ℕ) → called name (bytes "STATES") ≡ eqb (role_number (name_role name)) 5
+unfolding name_role role_number kind_number
 states_role name =
     go (called name (bytes "NADIR")) (called name (bytes "LIMB")) (called name (bytes "OCCULTATION")) (called name (bytes "MONITORING"))
     (called name (bytes "STATES")) (λ h. apart name 78 83 _ _ (λ e. omega arith) h) (λ h. apart name 76 83 _ _ (λ e. omega arith) h)
     (λ h. apart name 79 83 _ _ (λ e. omega arith) h) (λ h. apart name 77 83 _ _ (λ e. omega arith) h)
   where
     go : (n l o m s : Bool) → (n ≡ true → s ≡ false) → (l ≡ true → s ≡ false) → (o ≡ true → s ≡ false) → (m ≡ true → s ≡ false)
-        → s ≡ eqb (role n l o m s) 5
+        → s ≡ eqb (role_number (role n l o m s)) 5
     go true l o m s hn hl ho hm = hn refl
     go false true o m s hn hl ho hm = hl refl
     go false false true m s hn hl ho hm = ho refl
@@ -61,46 +102,40 @@ states_role name =
     go false false false false false hn hl ho hm = refl
 
 -- the states are a set of type A and role 5
-pub states_by_role : (e : Entry) → is_states e ≡ (eqb e.type 65 && eqb (name_role e.name) 5)
+pub states_by_role : (e : Entry) → is_states e ≡ (eqb e.type 65 && eqb (role_number (name_role e.name)) 5)
 unfolding is_states
 states_by_role e = rw (states_role e.name)
 
-abbrev text : Bool → Bool → Bool → Bool → Bool → List ℕ
-text a b c d e = cond a (bytes "NADIR") (cond b (bytes "LIMB") (cond c (bytes "OCCULTATION") (cond d (bytes "MONITORING") (cond e (bytes "STATES") []))))
-
--- the name of a role has that role; no other number is one
-pub role_text : (r : ℕ) → name_role (name_text r) ≡ cond (ltb r 6) r 0
+-- a role's name has that role
+pub role_text : (r : Role) → name_role (name_text r) ≡ r
 unfolding name_role name_text called
-role_text r = go (eqb r 1) refl (eqb r 2) refl (eqb r 3) refl (eqb r 4) refl (eqb r 5) refl
+role_text (Variable Nadir) = refl
+role_text (Variable Limb) = refl
+role_text (Variable Occultation) = refl
+role_text (Variable Monitoring) = refl
+role_text States = refl
+role_text Other = refl
+
+-- a variable set's name is that of its kind
+pub named : (e : Entry) → is_variable e ≡ true → (k : Kind) × (name_role e.name ≡ Variable k) × (kind_number k ≡ kind_of e)
+unfolding role_number
+named e v = go (name_role e.name) refl (kind_role e)
   where
-    is : (k : ℕ) → eqb r k ≡ true → k < 6 → k ≡ cond (ltb r 6) r 0
-    is k h l = let q : r ≡ k = eqb-true r k h in rw (lt-ltb r 6 (omega arith)) (sym q)
+    some : 0 < kind_of e
+    some = (variable_kind e ((variable_T e).0 (rw v tt))).0
 
-    go : (a : Bool) → eqb r 1 ≡ a → (b : Bool) → eqb r 2 ≡ b → (c : Bool) → eqb r 3 ≡ c → (d : Bool) → eqb r 4 ≡ d → (e : Bool) → eqb r 5 ≡ e
-        → name_role (text a b c d e) ≡ cond (ltb r 6) r 0
-    go true h b i c j d k e l = is 1 h (omega arith)
-    go false h true i c j d k e l = is 2 i (omega arith)
-    go false h false i true j d k e l = is 3 j (omega arith)
-    go false h false i false j true k e l = is 4 k (omega arith)
-    go false h false i false j false k true l = is 5 l (omega arith)
-    go false h false i false j false k false l = ⊎_elim
-        (λ u. let q : r ≡ 0 = omega (arith, eqb-false r 1 h, eqb-false r 2 i, eqb-false r 3 j, eqb-false r 4 k, eqb-false r 5 l) in rw (lt-ltb r 6 u) (sym q))
-        (λ u. rw (le-ltb r 6 u))
-        (lt-or-le r 6)
+    go : (r : Role) → name_role e.name ≡ r → kind_of e ≡ cond (ltb (role_number (name_role e.name)) 5) (role_number (name_role e.name)) 0
+        → (k : Kind) × (name_role e.name ≡ Variable k) × (kind_number k ≡ kind_of e)
+    go (Variable k) q n = (k, q, sym (rw (q, lt-ltb (kind_number k) 5 (kind_range k).1) at n))
+    go States q n = absurd (omega (arith, some, rw q at n))
+    go Other q n = absurd (omega (arith, some, rw q at n))
 
--- no role is above 5
-pub role_most : (name : List ℕ) → name_role name < 6
-unfolding name_role
-role_most name =
-    go (called name (bytes "NADIR")) (called name (bytes "LIMB")) (called name (bytes "OCCULTATION")) (called name (bytes "MONITORING")) (called name (bytes "STATES"))
+-- a role's number is a variable set's kind; 5 for the states; else 0
+pub number-of-role : (e : Entry) → role_number (role_of e) ≡ cond (is_variable e) (kind_of e) (cond (is_states e) 5 0)
+unfolding role_of role_number
+number-of-role e = go (is_variable e) (is_states e) refl
   where
-    go : (n l o m s : Bool) → role n l o m s < 6
-    go true l o m s = lit< tt
-    go false true o m s = lit< tt
-    go false false true m s = lit< tt
-    go false false false true s = lit< tt
-    go false false false false true = lit< tt
-    go false false false false false = lit< tt
-
-pub role_again : (name : List ℕ) → name_role (name_text (name_role name)) ≡ name_role name
-role_again name = role_text (name_role name) ∙ rw (lt-ltb (name_role name) 6 (role_most name))
+    go : (v s : Bool) → is_variable e ≡ v → role_number (cond v (name_role e.name) (cond s States Other)) ≡ cond v (kind_of e) (cond s 5 0)
+    go true s h = let k = named e h in rw k.1 k.2
+    go false true h = refl
+    go false false h = refl

@@ -23,6 +23,8 @@ use Rattle.text.proofs.Parts.{byte_part}
 use Rattle.text.specs.Numbers.{capped, number_in}
 use Rattle.text.specs.declared.Number.{Number as HeldNumber}
 use Rattle.dsd.specs.declared.Entry.{Entry as HeldEntry}
+use Rattle.dsd.specs.declared.Role.{Role}
+use Rattle.dsd.specs.declared.Role.TheVariants.{Other}
 use Rattle.dsd.specs.Held.{name_role, held_of, spare_bytes, SpareByFirst, Read}
 
 -- ---- places
@@ -113,7 +115,7 @@ module _ (b : List ℕ) (bytes : (k : ℕ) → get_or b k 0 < 256) (at : ℕ) (f
 -- ---- what the constructor answers
 
 module _ (b : List ℕ) (bytes : (k : ℕ) → get_or b k 0 < 256) (start : ℕ) (fits : start + 280 ≤ length b) where
-  pub read_entry : {o s n r : HeldNumber} {role : ℕ}
+  pub read_entry : {o s n r : HeldNumber} {role : Role}
       → o ≡ number_in b (start + 133) 21 → s ≡ number_in b (start + 170) 21 → n ≡ number_in b (start + 207) 11 → r ≡ number_in b (start + 228) 11
       → role ≡ name_role (part b (start + 9) 28)
       → Read b start (record { ds_type = get_or b (start + 47) 0; offset = o; size = s; count = n; record_size = r; name_role = role })
@@ -140,7 +142,7 @@ module _ (b : List ℕ) (bytes : (k : ℕ) → get_or b k 0 < 256) (start : ℕ)
 abbrev no_number : HeldNumber
 no_number = record { minus = false; magnitude = 0 }
 
-pub held-spare : record { ds_type = 32; offset = no_number; size = no_number; count = no_number; record_size = no_number; name_role = 0 } ≡ held_of (entry_of spare_bytes)
+pub held-spare : record { ds_type = 32; offset = no_number; size = no_number; count = no_number; record_size = no_number; name_role = Other } ≡ held_of (entry_of spare_bytes)
 unfolding held_of entry_of value_of place_of width_of dsd line_classes value_classes quote_width value_width byte_at part number_of digits capped name_role called spare_bytes
 held-spare = refl
 

@@ -1,26 +1,58 @@
 -- An entry as the code holds it: its type, its four numbers and the role of its name, against layout's entry. Layout's tests are asked of the view
 -- that a held entry gives.
 -- Assumes nothing.
-use Rattle.std.specs.Prelude.{ℕ, ◌<◌, cond, List, [], ◌∷◌, ◌++◌, ◌≡◌, leb, eqb, replicate}
+use Rattle.std.specs.Prelude.{ℕ, ◌<◌, Bool, true, false, cond, List, [], ◌∷◌, ◌++◌, ◌≡◌, leb, replicate}
 use Rattle.layout.specs.Bytes.{bytes, part, byte_at}
 use Rattle.layout.specs.Text.{Number}
-use Rattle.layout.specs.Entries.{Entry, entry_of, called, kind_of, is_variable, is_states, largest_signed}
+use Rattle.layout.specs.Entries.{Entry, entry_of, called, is_variable, is_states, largest_signed}
 use Rattle.text.specs.Numbers.{capped}
 use Rattle.text.specs.declared.Number.{Number as HeldNumber}
 use Rattle.dsd.specs.declared.Entry.{Entry as HeldEntry}
+use Rattle.dsd.specs.declared.Kind.{Kind}
+use Rattle.dsd.specs.declared.Kind.TheVariants.{Nadir, Limb, Occultation, Monitoring}
+use Rattle.dsd.specs.declared.Role.{Role}
+use Rattle.dsd.specs.declared.Role.TheVariants.{Other, Variable, States}
 
--- what a set of this name may be: of the kinds 1 to 4, or the states
-unfoldable pub name_role : List ℕ → ℕ
-name_role name =
-    cond (called name (bytes "NADIR")) 1
-    (cond (called name (bytes "LIMB")) 2
-    (cond (called name (bytes "OCCULTATION")) 3
-    (cond (called name (bytes "MONITORING")) 4
-    (cond (called name (bytes "STATES")) 5 0))))
+-- ---- the numbers of kinds and roles
+
+-- a kind's number in the name table, which a state record gives too
+unfoldable pub kind_number : Kind → ℕ
+kind_number Nadir = 1
+kind_number Limb = 2
+kind_number Occultation = 3
+kind_number Monitoring = 4
 
 -- a variable set's kind; 5 for the states; else 0
-unfoldable pub role_of : Entry → ℕ
-role_of e = cond (is_variable e) (kind_of e) (cond (is_states e) 5 0)
+unfoldable pub role_number : Role → ℕ
+role_number Other = 0
+role_number (Variable kind) = kind_number kind
+role_number States = 5
+
+-- ---- roles
+
+-- a variable set; what of_states the states
+unfoldable pub of_variable : Role → Bool
+of_variable (Variable kind) = true
+of_variable States = false
+of_variable Other = false
+
+unfoldable pub of_states : Role → Bool
+of_states (Variable kind) = false
+of_states States = true
+of_states Other = false
+
+-- what a set of this name may be: of the kinds 1 to 4, or the states
+unfoldable pub name_role : List ℕ → Role
+name_role name =
+    cond (called name (bytes "NADIR")) (Variable Nadir)
+    (cond (called name (bytes "LIMB")) (Variable Limb)
+    (cond (called name (bytes "OCCULTATION")) (Variable Occultation)
+    (cond (called name (bytes "MONITORING")) (Variable Monitoring)
+    (cond (called name (bytes "STATES")) States Other))))
+
+-- a variable set of the kind that its name tells; the states; or neither
+unfoldable pub role_of : Entry → Role
+role_of e = cond (is_variable e) (name_role e.name) (cond (is_states e) States Other)
 
 -- where in the DSD the number stands that passes 2^63 - 1, DS_OFFSET before DS_SIZE; or 0
 unfoldable pub over_place : Entry → ℕ
@@ -54,13 +86,13 @@ pub record Read (b : List ℕ) (start : ℕ) (r : HeldEntry) : Type 0 where
 
 -- ---- an entry that what is held is held of: a name of that role, no FILENAME
 
-unfoldable pub name_text : ℕ → List ℕ
-name_text role =
-    cond (eqb role 1) (bytes "NADIR")
-    (cond (eqb role 2) (bytes "LIMB")
-    (cond (eqb role 3) (bytes "OCCULTATION")
-    (cond (eqb role 4) (bytes "MONITORING")
-    (cond (eqb role 5) (bytes "STATES") []))))
+unfoldable pub name_text : Role → List ℕ
+name_text (Variable Nadir) = bytes "NADIR"
+name_text (Variable Limb) = bytes "LIMB"
+name_text (Variable Occultation) = bytes "OCCULTATION"
+name_text (Variable Monitoring) = bytes "MONITORING"
+name_text States = bytes "STATES"
+name_text Other = []
 
 unfoldable pub number_from : HeldNumber → Number
 number_from n = record { minus = n.minus; magnitude = n.magnitude }

@@ -1,33 +1,86 @@
 // One DSD (document 01, "The DSD" and rules 9 and 10): what it answers, and what is asked of its numbers.
 #![tactic(auto)]
 
-ghost use Rattle.std.specs.Prelude.{◌≡◌, true, not, cond, ◌+◌, ◌≤◌, ◌<◌, pos, length};
+ghost use Rattle.std.specs.Prelude.{◌≡◌, true, not, cond, ◌+◌, ◌≤◌, ◌<◌, pos, length, eqb};
 ghost use Rattle.layout.specs.Bytes.{part};
 ghost use Rattle.layout.specs.Lines.{size_of_dsd};
 ghost use Rattle.layout.specs.Entries.{entry_of, is_data, non_empty, all_zero, in_range, is_fixed, is_variable, set_fits, numbers_fit, at_least};
-ghost use Rattle.dsd.specs.Held.{name_role, number_from, held_of, view_of, spare_bytes, SpareByFirst, Read, over_place, role_of};
+ghost use Rattle.dsd.specs.Held.{kind_number, of_variable, of_states, name_role, number_from, held_of, view_of, spare_bytes, SpareByFirst, Read, over_place, role_of};
 
-// What a set may be whose name is the 28 bytes from `start` on: of the kinds 1 to 4 of source 003's level 1b name table, or the states, 5; else 0.
-pub fn role_of_name(p: &[u8], start: usize) -> u8
+// The kinds of variable sets, by their numbers in source 003's level 1b name table.
+#[derive(Clone, Copy)]
+pub enum Kind {
+    Nadir = 1,
+    Limb = 2,
+    Occultation = 3,
+    Monitoring = 4,
+}
+
+impl Kind {
+    #[tactic(auto, using(crate::proofs::Names::kind_tag))]
+    pub fn number(self) -> u8
+        ensures { result ≡ kind_number self }
+    {
+        self as u8
+    }
+
+    // Its place among the four.
+    #[tactic(auto, using(crate::proofs::Names::kind_tag, crate::proofs::Names::kind_range))]
+    pub fn place(self) -> usize
+        ensures { (result + 1 ≡ kind_number self) × (result < 4) }
+    {
+        self as usize - 1
+    }
+}
+
+// What a set is, or by its name may be, to rules 10, 15 and 16.
+#[derive(Clone, Copy)]
+pub enum Role {
+    Other,
+    Variable(Kind),
+    States,
+}
+
+impl Role {
+    // A variable set's.
+    #[tactic(auto, unfolding(crate::specs::Held::of_variable))]
+    pub fn is_variable(self) -> bool
+        ensures { result ≡ of_variable self }
+    {
+        matches!(self, Role::Variable(_))
+    }
+
+    // Of what describes the states.
+    #[tactic(auto, unfolding(crate::specs::Held::of_states))]
+    pub fn is_states(self) -> bool
+        ensures { result ≡ of_states self }
+    {
+        matches!(self, Role::States)
+    }
+}
+
+// What a set may be whose name is the 28 bytes from `start` on.
+#[tactic(auto, unfolding(crate::specs::Held::name_role))]
+pub fn role_of_name(p: &[u8], start: usize) -> Role
     requires { start + 28 ≤ length p.now }
     ensures { result ≡ name_role (part p.now start 28) }
 {
     if text::is_called(p, start, b"NADIR") {
-        return 1;
+        return Role::Variable(Kind::Nadir);
     }
     if text::is_called(p, start, b"LIMB") {
-        return 2;
+        return Role::Variable(Kind::Limb);
     }
     if text::is_called(p, start, b"OCCULTATION") {
-        return 3;
+        return Role::Variable(Kind::Occultation);
     }
     if text::is_called(p, start, b"MONITORING") {
-        return 4;
+        return Role::Variable(Kind::Monitoring);
     }
     if text::is_called(p, start, b"STATES") {
-        return 5;
+        return Role::States;
     }
-    0
+    Role::Other
 }
 
 // Below zero; minus zero is not.
@@ -40,7 +93,7 @@ pub fn is_negative(n: text::Number) -> bool
     n.minus
 }
 
-// What a DSD answers, with the role of its name.
+// What a DSD answers, with the role of its name. The type stays the DSD's own byte (M, A, G, R or a blank): hosts are handed it so.
 #[derive(Clone, Copy)]
 pub struct Entry {
     pub ds_type: u8,
@@ -48,7 +101,7 @@ pub struct Entry {
     pub size: text::Number,
     pub count: text::Number,
     pub record_size: text::Number,
-    pub name_role: u8,
+    pub name_role: Role,
 }
 
 impl Entry {
@@ -68,7 +121,7 @@ impl Entry {
             size: zero,
             count: zero,
             record_size: zero,
-            name_role: 0,
+            name_role: Role::Other,
         }
     }
 
@@ -91,29 +144,19 @@ impl Entry {
     }
 
     // Type M, A or G.
+    #[tactic(auto, unfolding(layout::specs::Entries::is_data, crate::specs::Held::view_of))]
     fn is_data(self) -> bool
         ensures { result ≡ is_data (view_of self) }
     {
-        if self.ds_type == b'M' {
-            return true;
-        }
-        if self.ds_type == b'A' {
-            return true;
-        }
-        self.ds_type == b'G'
+        matches!(self.ds_type, b'M' | b'A' | b'G')
     }
 
-    // Where in the DSD the number stands that passes 2^63 - 1 (rule 9), DS_OFFSET before DS_SIZE; or 0.
-    pub fn over(self) -> usize
-        ensures { result ≡ over_place (view_of self) }
+    // DS_OFFSET or DS_SIZE passes 2^63 - 1 (rule 9).
+    #[tactic(auto, unfolding(crate::specs::Held::over_place, crate::specs::Held::view_of, crate::specs::Held::number_from))]
+    pub fn is_over(self) -> bool
+        ensures { result ≡ not (eqb (over_place (view_of self)) 0) }
     {
-        if 9223372036854775807 < self.offset.magnitude {
-            return 133;
-        }
-        if 9223372036854775807 < self.size.magnitude {
-            return 170;
-        }
-        0
+        9223372036854775807 < self.offset.magnitude || 9223372036854775807 < self.size.magnitude
     }
 
     // All four numbers are zero.
@@ -187,10 +230,7 @@ impl Entry {
         if self.ds_type != b'M' {
             return false;
         }
-        if self.name_role == 0 {
-            return false;
-        }
-        self.name_role < 5
+        self.name_role.is_variable()
     }
 
     // A set with numbers in range: DS_SIZE 0 needs NUM_DSR 0, above 0 NUM_DSR at least 1 and records that fill it.
@@ -244,19 +284,20 @@ impl Entry {
         counted
     }
 
-    // A variable set's kind 1 to 4; 5 for the states; else 0.
-    pub fn role(self) -> u8
+    // What the set is.
+    #[tactic(auto, using(crate::proofs::Fits::what_it_is))]
+    pub fn role(self) -> Role
         ensures { result ≡ role_of (view_of self) }
     {
         if self.is_variable() {
             return self.name_role;
         }
         if self.ds_type != b'A' {
-            return 0;
+            return Role::Other;
         }
-        if self.name_role == 5 {
-            return 5;
+        if self.name_role.is_states() {
+            return Role::States;
         }
-        0
+        Role::Other
     }
 }

@@ -1,6 +1,6 @@
 -- What the calls of `product` promise, put together to the pixel's reply.
 -- Assumes nothing.
-use Prim.Native.Nat.{ℕ, ◌≤◌}
+use Prim.Native.Nat.{ℕ, ◌≤◌, ◌<◌}
 use mathlib.Core.Bool.{Bool, true, false}
 use mathlib.Core.List.{List}
 use mathlib.Core.Path.{◌≡◌, refl, sym, ap, ◌∙◌}
@@ -13,7 +13,8 @@ use Rattle.layout.specs.States.{states_of}
 use Rattle.layout.specs.Rules.{verdict}
 use Rattle.layout.specs.Records.{lengths, record_refusal, record_place, part_of}
 use Rattle.layout.specs.Fields.{record_of}
-use Rattle.layout.specs.Answers.{directory_of, directory_for}
+use Rattle.layout.specs.Answers.{directory_of}
+use Rattle.layout.specs.declared.Refusal.{Refusal}
 use Rattle.layout.specs.declared.Directory.{Directory}
 use Rattle.layout.proofs.Sound.{sound, length-directory, accepted-entries}
 use Rattle.layout.proofs.Names.{name_width}
@@ -27,10 +28,7 @@ module _ (b : List ℕ) (j pixel : ℕ) where
   unfolding pixel_reply measurement_refusal
   refused-product n p e h = rw h
 
-  module _ (accepts : verdict b ≡ accepted) (d : Directory) (listed : d ≡ directory_for (verdict b) b) where
-    answered : d ≡ directory_of (directory b)
-    answered = listed ∙ rw accepts
-
+  module _ (accepts : verdict b ≡ accepted) (d : Directory) (answered : d ≡ directory_of (directory b)) where
     few : length (directory b) ≤ 128
     few = omega (arith, length-directory b, accepted-entries b accepts)
 
@@ -38,42 +36,41 @@ module _ (b : List ℕ) (j pixel : ℕ) where
     unfolding directory_of
     few-entries = rw answered few
 
-    module _ (i : ℕ) (here : i ≡ extinction_in d) where
-      found_in : extinction_in (directory_of (directory b)) ≡ i
-      found_in = ap extinction_in (sym answered) ∙ sym here
+    pub no_set : extinction_in d ≡ 128 → refusal 22 0 128 ≡ pixel_reply b j pixel
+    unfolding pixel_reply measurement_refusal
+    no_set h = rw (accepts, found.no_set (directory b) few (name_width b (sound b accepts)) (ap extinction_in (sym answered) ∙ h))
 
-      pub no_set : i ≡ 128 → refusal 22 0 128 ≡ pixel_reply b j pixel
+    module _ (i : ℕ) (here : (i ≡ extinction_in d) × (i < 128)) (l : List ℕ) (handed : l ≡ part_of b (record_place b i j)) where
+      set : (set_refusal (directory b) ≡ accepted) × (i ≡ extinction_entry (directory b))
+      set =
+          let found_in : extinction_in (directory_of (directory b)) ≡ i = ap extinction_in (sym answered) ∙ sym here.0 in
+          let r = found.the_set (directory b) few (name_width b (sound b accepts)) (λ h. omega (arith, found_in, h, here.1)) in
+          (r.0, sym found_in ∙ r.1)
+
+      -- the record is there, is what was handed out, and has its bytes
+      abbrev Handed : Type 0
+      Handed = ((record_refusal b i j ≡ accepted) × ((l ≡ record_of b i j) × (length l ≡ 25709)))
+
+      pub handed_out : (length l ≡ 0 → ⊥) → Handed
+      handed_out h = go (record_refusal b i j) refl
+        where
+          go : (a : Answer) → record_refusal b i j ≡ a → Handed
+          go accepted q =
+              let e : l ≡ record_of b i j = handed ∙ part_there b i j q in
+              (q, (e, ap length e ∙ (rw (← set.1) at (record-long b accepts set.0 j)) q))
+          go (refused n p e) q = absurd (h (ap length (handed ∙ part-missing b i j n p e q)))
+
+      refusal_18 : length l ≡ 0 → record_refusal b i j ≡ refused 18 0 i
+      refusal_18 h = go (ltb j (length (lengths (states_of b (directory b)) (at (directory b) i)))) (rw (← set.1) at (only_18 b accepts set.0 j))
+        where
+          go : (t : Bool) → record_refusal b i j ≡ need t 18 0 i → record_refusal b i j ≡ refused 18 0 i
+          go true q = absurd (omega (arith, h, ap length (handed ∙ part_there b i j q), (rw (← set.1) at (record-long b accepts set.0 j)) q))
+          go false q = q
+
+      pub no_record : length l ≡ 0 → refusal 18 0 i ≡ pixel_reply b j pixel
       unfolding pixel_reply measurement_refusal
-      no_set h = rw (accepts, found.no_set (directory b) few (name_width b (sound b accepts)) (found_in ∙ h))
+      no_record h = rw (accepts, set.0, ← set.1, refusal_18 h)
 
-      module _ (there : i ≡ 128 → ⊥) (l : List ℕ) (handed : l ≡ part_of b (record_place b i j)) where
-        set : (set_refusal (directory b) ≡ accepted) × (i ≡ extinction_entry (directory b))
-        set = let r = found.the_set (directory b) few (name_width b (sound b accepts)) (λ h. there (sym found_in ∙ h)) in (r.0, sym found_in ∙ r.1)
-
-        -- the record is there, is what was handed out, and has its bytes
-        abbrev Handed : Type 0
-        Handed = ((record_refusal b i j ≡ accepted) × ((l ≡ record_of b i j) × (length l ≡ 25709)))
-
-        pub handed_out : (length l ≡ 0 → ⊥) → Handed
-        handed_out h = go (record_refusal b i j) refl
-          where
-            go : (a : Answer) → record_refusal b i j ≡ a → Handed
-            go accepted q =
-                let e : l ≡ record_of b i j = handed ∙ part_there b i j q in
-                (q, (e, ap length e ∙ (rw (← set.1) at (record-long b accepts set.0 j)) q))
-            go (refused n p e) q = absurd (h (ap length (handed ∙ part-missing b i j n p e q)))
-
-        refusal_18 : length l ≡ 0 → record_refusal b i j ≡ refused 18 0 i
-        refusal_18 h = go (ltb j (length (lengths (states_of b (directory b)) (at (directory b) i)))) (rw (← set.1) at (only_18 b accepts set.0 j))
-          where
-            go : (t : Bool) → record_refusal b i j ≡ need t 18 0 i → record_refusal b i j ≡ refused 18 0 i
-            go true q = absurd (omega (arith, h, ap length (handed ∙ part_there b i j q), (rw (← set.1) at (record-long b accepts set.0 j)) q))
-            go false q = q
-
-        pub no_record : length l ≡ 0 → refusal 18 0 i ≡ pixel_reply b j pixel
-        unfolding pixel_reply measurement_refusal
-        no_record h = rw (accepts, set.0, ← set.1, refusal_18 h)
-
-        pub reads : (length l ≡ 0 → ⊥) → pixel_in l i pixel ≡ pixel_reply b j pixel
-        unfolding pixel_reply measurement_refusal
-        reads h = let r = handed_out h in rw (accepts, set.0, ← set.1, r.0, r.1.0)
+      pub reads : (length l ≡ 0 → ⊥) → pixel_in l i pixel ≡ pixel_reply b j pixel
+      unfolding pixel_reply measurement_refusal
+      reads h = let r = handed_out h in rw (accepts, set.0, ← set.1, r.0, r.1.0)

@@ -1,6 +1,6 @@
 -- The set that is found in the arrays of a directory is the one that refusal 22 asks for.
 -- Assumes nothing.
-use Prim.Native.Nat.{ℕ, ◌*◌, ◌≤◌, ◌<◌}
+use Prim.Native.Nat.{ℕ, ◌≤◌, ◌<◌}
 use mathlib.Core.Bool.{Bool, true, false, cond, ◌&&◌}
 use mathlib.Core.List.{List}
 use mathlib.Core.Path.{◌≡◌, refl, ◌∙◌}
@@ -8,17 +8,16 @@ use native.Mathlib.Omega.{arith}
 use lib.Dec.{eqb, ltb}
 use lib.IntN.{ℤ, pos}
 use lib.ListN.{length, get_or}
-use borrow.Author.Tests.{lt-ltb, le-ltb, ne_eqb, eqb-true}
-use Rattle.layout.specs.Bytes.{bytes, part}
+use borrow.Author.Tests.{lt-ltb, le-ltb, eqb-true}
 use Rattle.layout.specs.Text.{whole}
 use Rattle.layout.specs.Answer.{accepted, refused, none, need, ◌or_else◌}
 use Rattle.layout.specs.Search.{count, only}
-use Rattle.layout.specs.Entries.{Entry, eq_z, at, called}
-use Rattle.layout.specs.Answers.{type_of, record_size_of, name_at, directory_of}
+use Rattle.layout.specs.Entries.{Entry, eq_z, at}
+use Rattle.layout.specs.Answers.{type_of, record_size_of, directory_of}
 use Rattle.layout.specs.declared.Directory.{Directory}
 use Rattle.layout.proofs.Laws.{eq_z-T}
 use Rattle.layout.proofs.Tests.{is_false, counted_once}
-use Rattle.layout.proofs.Only.{only_same, only-most}
+use Rattle.layout.proofs.Only.{only_same}
 use Rattle.layout.proofs.Padded.{padded-at}
 use Rattle.layout.proofs.Names.{name_same}
 use Rattle.extinction.specs.Extinction.{is_extinction, is_extinction_at, extinction_entry, set_refusal}
@@ -26,34 +25,22 @@ use Rattle.extinction.specs.Found.{is_extinction_in, extinction_in}
 
 -- ---- in the arrays of any directory
 
-module _ (types names : List ℕ) (i : ℕ) where
-  pub another_type : (get_or types i 0 ≡ 77 → ⊥) → false ≡ is_extinction_in types names i
-  unfolding is_extinction_in
-  another_type h = rw (ne_eqb (get_or types i 0) 77 h)
-
-  pub of_type_M : get_or types i 0 ≡ 77 → called (part names (28 * i) 28) (bytes "EXT_MDS") ≡ is_extinction_in types names i
-  unfolding is_extinction_in name_at
-  of_type_M h = rw h
-
-module _ (d : Directory) (i : ℕ) (here : i ≡ only (is_extinction_in d.types d.names) d.entries) where
-  pub none_found : i ≡ d.entries → 128 ≡ extinction_in d
+module _ (d : Directory) where
+  pub none_found : only (is_extinction_in d) d.entries ≡ d.entries → extinction_in d ≡ 128
   unfolding extinction_in
-  none_found h = rw (← here, le-ltb i d.entries (omega arith))
+  none_found h = rw (h, le-ltb d.entries d.entries (omega arith))
 
-  module _ (there : i ≡ d.entries → ⊥) where
-    pub found_inside : i < d.entries
-    found_inside = omega (arith, here, there, only-most (is_extinction_in d.types d.names) d.entries)
-
+  module _ (i : ℕ) (found : (i ≡ only (is_extinction_in d) d.entries) × (i < d.entries)) where
     abbrev size : ℤ
     size = get_or d.record_sizes i (pos 0)
 
-    pub wrong_size : (size ≡ pos 25709 → ⊥) → 128 ≡ extinction_in d
+    pub wrong_size : (size ≡ pos 25709 → ⊥) → extinction_in d ≡ 128
     unfolding extinction_in
-    wrong_size h = rw (← here, is_false (eq_z size (pos 25709)) (λ t. h ((eq_z-T size (pos 25709)).0 t)), lt-ltb i d.entries found_inside)
+    wrong_size h = rw (← found.0, is_false (eq_z size (pos 25709)) (λ t. h ((eq_z-T size (pos 25709)).0 t)), lt-ltb i d.entries found.1)
 
     pub right_size : size ≡ pos 25709 → i ≡ extinction_in d
     unfolding extinction_in
-    right_size h = rw (← here, lt-ltb i d.entries found_inside, h)
+    right_size h = rw (← found.0, lt-ltb i d.entries found.1, h)
 
 -- ---- in those of a product
 
@@ -62,7 +49,7 @@ module _ (ds : List Entry) (few : length ds ≤ 128) (wide : (k : ℕ) → k < l
   unfolding directory_of
   type_same k l = padded-at type_of 0 128 ds k l
 
-  is_same : (k : ℕ) → k < length ds → is_extinction_in (directory_of ds).types (directory_of ds).names k ≡ is_extinction_at ds k
+  is_same : (k : ℕ) → k < length ds → is_extinction_in (directory_of ds) k ≡ is_extinction_at ds k
   unfolding is_extinction_in is_extinction_at is_extinction
   is_same k l = rw (type_same k l, name_same ds k l wide)
 
@@ -76,9 +63,9 @@ module _ (ds : List Entry) (few : length ds ≤ 128) (wide : (k : ℕ) → k < l
   unfolding extinction_entry
   inside h = (counted_once (is_extinction_at ds) (length ds) (eqb-true (count (is_extinction_at ds) 0 (length ds)) 1 h)).0
 
-  only-is : only (is_extinction_in (directory_of ds).types (directory_of ds).names) (length ds) ≡ cond once (extinction_entry ds) (length ds)
+  only-is : only (is_extinction_in (directory_of ds)) (length ds) ≡ cond once (extinction_entry ds) (length ds)
   unfolding only extinction_entry
-  only-is = only_same (is_extinction_in (directory_of ds).types (directory_of ds).names) (is_extinction_at ds) (length ds) is_same
+  only-is = only_same (is_extinction_in (directory_of ds)) (is_extinction_at ds) (length ds) is_same
 
   size_same : extinction_entry ds < length ds → get_or (directory_of ds).record_sizes (extinction_entry ds) (pos 0) ≡ whole (at ds (extinction_entry ds)).record_size
   unfolding directory_of

@@ -1,30 +1,19 @@
 -- What a record answers of a pixel: refusal 23, refusal 24, or its values.
 -- Assumes nothing.
 use Prim.Native.Nat.{ℕ, ◌≤◌, ◌<◌}
-use mathlib.Core.Bool.{Bool, true, false, not}
+use mathlib.Core.Bool.{Bool, true, false}
 use mathlib.Core.List.{List}
 use mathlib.Core.Logic.{◌⊎◌, inl, inr}
-use mathlib.Core.Path.{◌≡◌, refl, sym, ap}
-use lib.Dec.{T, ltb}
+use mathlib.Core.Path.{◌≡◌, refl, sym}
+use lib.Dec.{T}
 use lib.IntN.{negsuc}
 use borrow.Author.Tests.{lt-ltb, le-ltb}
 use Rattle.layout.specs.Bytes.{signed_at}
-use Rattle.layout.specs.Answer.{Answer, need, refusal, is, ◌or_else◌, ◌else◌}
+use Rattle.layout.specs.Answer.{refusal, is}
 use Rattle.layout.specs.Entries.{eq_z}
 use Rattle.layout.proofs.Laws.{eq_z-T, lt-or-le}
 use Rattle.layout.proofs.Tests.{is_true, is_false}
-use Rattle.extinction.specs.declared.Pixel.{Pixel}
 use Rattle.extinction.specs.Extinction.{pixel_of, pixel_refusal, pixel_in}
-
--- two tests, one after the other
-first-fails : (t : Bool) (n p e : ℕ) (a : Answer) (x : Pixel) → t ≡ false → refusal n p e ≡ ((need t n p e or_else a) else x)
-first-fails t n p e a x h = rw h
-
-second-fails : (t u : Bool) (n p e m q d : ℕ) (x : Pixel) → t ≡ true → u ≡ false → refusal m q d ≡ ((need t n p e or_else need u m q d) else x)
-second-fails t u n p e m q d x h k = rw (h, k)
-
-both_pass : (t u : Bool) (n p e m q d : ℕ) (x : Pixel) → t ≡ true → u ≡ true → is x ≡ ((need t n p e or_else need u m q d) else x)
-both_pass t u n p e m q d x h k = rw (h, k)
 
 module _ (r : List ℕ) (i pixel : ℕ) where
   abbrev is_empty : Bool
@@ -35,20 +24,16 @@ module _ (r : List ℕ) (i pixel : ℕ) where
 
   pub past_pixels : 2336 ≤ pixel → refusal 23 pixel i ≡ pixel_in r i pixel
   unfolding pixel_in pixel_refusal
-  past_pixels h = first-fails (ltb pixel 2336) 23 pixel i (need (not is_empty) 24 12 i) (pixel_of r pixel) (le-ltb pixel 2336 h)
+  past_pixels h = rw (le-ltb pixel 2336 h)
 
   module _ (there : pixel < 2336) where
     pub empty-record : signed_at r 12 1 ≡ negsuc 0 → refusal 24 12 i ≡ pixel_in r i pixel
     unfolding pixel_in pixel_refusal
-    empty-record h =
-        second-fails (ltb pixel 2336) (not is_empty) 23 pixel i 24 12 i (pixel_of r pixel) (lt-ltb pixel 2336 there)
-        (ap not (is_true is_empty ((eq_z-T (signed_at r 12 1) (negsuc 0)).1 h)))
+    empty-record h = rw (lt-ltb pixel 2336 there, is_true is_empty ((eq_z-T (signed_at r 12 1) (negsuc 0)).1 h))
 
     pub values : (signed_at r 12 1 ≡ negsuc 0 → ⊥) → is (pixel_of r pixel) ≡ pixel_in r i pixel
     unfolding pixel_in pixel_refusal
-    values h =
-        both_pass (ltb pixel 2336) (not is_empty) 23 pixel i 24 12 i (pixel_of r pixel) (lt-ltb pixel 2336 there)
-        (ap not (is_false is_empty (λ t. h (empty-T t))))
+    values h = rw (lt-ltb pixel 2336 there, is_false is_empty (λ t. h (empty-T t)))
 
   -- nothing else is answered
   pub data Answered : Type 0 where

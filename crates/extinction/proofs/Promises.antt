@@ -11,6 +11,7 @@ use lib.IntN.{pos}
 use lib.Ieee.{binary64, of_int}
 use lib.ListN.{length, get_or}
 use borrow.Author.Tests.{le-leb, le-ltb}
+use Rattle.std.specs.Prelude.{Result, Ok, Err}
 use Rattle.layout.specs.Bytes.{within}
 use Rattle.layout.specs.Text.{whole}
 use Rattle.layout.specs.Answer.{accepted, refused, none, need, refusal, is, ◌or_else◌}
@@ -21,17 +22,17 @@ use Rattle.layout.specs.Rules.{verdict}
 use Rattle.layout.specs.Records.{lengths, record_refusal}
 use Rattle.layout.specs.Fields.{integer, single, time, shape_of, bytes_of, value_at, record_of, ends_in, field_refusal, field_in, field_reply}
 use Rattle.layout.specs.Answers.{time_at}
+use Rattle.layout.specs.declared.Refusal.{Refusal}
 use Rattle.layout.proofs.Laws.{or_else_accepts}
 use Rattle.layout.proofs.Tests.{is_true}
 use Rattle.layout.proofs.Replies.{Told, NumberedReply, need-told, or_else_told, before-is, before-refusal, refusal≢is}
 use Rattle.layout.proofs.Sound.{sound, no_records}
-use Rattle.layout.proofs.Maps.{refusals}
+use Rattle.layout.specs.Answers.{reply_is as reply_said}
+use Rattle.layout.proofs.Maps.{one-reply}
 use Rattle.fields.proofs.Distance.{unsigned_below}
 use Rattle.product.proofs.Numbers.{verdict-number}
 use Rattle.product.proofs.Points.{record-bytes}
 use Rattle.extinction.specs.declared.Pixel.{Pixel}
-use Rattle.extinction.specs.declared.PixelAnswer.{PixelAnswer}
-use Rattle.extinction.specs.declared.PixelAnswer.TheVariants as answers
 use Rattle.extinction.specs.Extinction.{is_extinction_at, extinction_entry, set_refusal, single_at, model_of, pixel_of, pixel_in, measurement_refusal, pixel_reply, pixel_answer_is}
 use Rattle.extinction.proofs.Pixels.{Answered, past, empty, given, answered}
 use Rattle.extinction.proofs.Measured.{inside, only_18, record-long}
@@ -39,15 +40,8 @@ use Rattle.extinction.proofs.Model.{ModelClose, model_0, model_65535, model_clos
 
 -- ---- two results are equal
 
-one_answer : (v w : PixelAnswer) → pixel_answer_is v ≡ pixel_answer_is w → v ≡ w
-unfolding pixel_answer_is
-one_answer (answers.Refused r) (answers.Refused s) h = ap answers.Refused (refusals r s h)
-one_answer (answers.Refused r) (answers.Is q) h = cc
-one_answer (answers.Is p) (answers.Refused s) h = cc
-one_answer (answers.Is p) (answers.Is q) h = ap answers.Is (cc)
-
-pub one_pixel : (b : List ℕ) (j pixel : ℕ) (x y : PixelAnswer) → pixel_answer_is x ≡ pixel_reply b j pixel → pixel_answer_is y ≡ pixel_reply b j pixel → x ≡ y
-one_pixel b j pixel x y h k = one_answer x y (h ∙ sym k)
+pub one_pixel : (b : List ℕ) (j pixel : ℕ) (x y : Result Pixel Refusal) → pixel_answer_is x ≡ pixel_reply b j pixel → pixel_answer_is y ≡ pixel_reply b j pixel → x ≡ y
+one_pixel b j pixel x y h k = one-reply x y (h ∙ sym k)
 
 -- ---- which refusals arise
 
@@ -135,7 +129,7 @@ pub record AsFields (b : List ℕ) (i j pixel : ℕ) (x : Pixel) : Type 0 where
   pub flagged : field_reply b i j (23373 + pixel) 2 ≡ is (integer (pos x.flag))
   pub modelled : x.model ≡ model_of x.model_code
 
-module _ (b : List ℕ) (j pixel : ℕ) (answer : PixelAnswer) (promise : pixel_answer_is answer ≡ pixel_reply b j pixel) (x : Pixel) (shown : answer ≡ answers.Is x) where
+module _ (b : List ℕ) (j pixel : ℕ) (answer : Result Pixel Refusal) (promise : pixel_answer_is answer ≡ pixel_reply b j pixel) (x : Pixel) (shown : answer ≡ Ok x) where
   abbrev i : ℕ
   i = extinction_entry (directory b)
 
@@ -143,7 +137,7 @@ module _ (b : List ℕ) (j pixel : ℕ) (answer : PixelAnswer) (promise : pixel_
   r = record_of b i j
 
   reply_is : pixel_reply b j pixel ≡ is x
-  unfolding pixel_answer_is
+  unfolding reply_said
   reply_is = sym promise ∙ ap pixel_answer_is shown
 
   parts : (measurement_refusal b j ≡ accepted) × (pixel_in r i pixel ≡ is x)

@@ -1,7 +1,7 @@
 -- Residual extinction (document 02, order 1; source 001, tables 10.5-12 and 10.5-13): the one set that holds it, what a pixel of one of its records
 -- answers, and refusals 22, 23 and 24.
 -- Assumes nothing.
-use Rattle.std.specs.Prelude.{ℕ, ◌+◌, ◌*◌, Bool, ◌&&◌, not, List, ltb, eqb, pos, negsuc, Float, length}
+use Rattle.std.specs.Prelude.{ℕ, ◌+◌, ◌*◌, Bool, ◌&&◌, not, List, ltb, eqb, pos, negsuc, Float, length, Result}
 use Rattle.std.specs.Float.{binary32}
 use Rattle.std.specs.Float.Ieee.{of_bits}
 use Rattle.layout.specs.Bytes.{bytes, unsigned_at, signed_at}
@@ -12,11 +12,10 @@ use Rattle.layout.specs.Entries.{Entry, eq_z, directory, at, called}
 use Rattle.layout.specs.Rules.{verdict}
 use Rattle.layout.specs.Records.{record_refusal}
 use Rattle.layout.specs.Fields.{quotient, record_of}
-use Rattle.layout.specs.Answers.{time_at}
+use Rattle.layout.specs.Answers.{time_at, reply}
 use Rattle.extinction.specs.declared.Single.{Single}
 use Rattle.extinction.specs.declared.Pixel.{Pixel}
-use Rattle.extinction.specs.declared.PixelAnswer.{PixelAnswer}
-use Rattle.extinction.specs.declared.PixelAnswer.TheVariants as answers
+use Rattle.layout.specs.declared.Refusal.{Refusal}
 
 -- ---- the set
 
@@ -79,7 +78,6 @@ pixel_reply b j pixel =
     let i = extinction_entry (directory b) in
     measurement_refusal b j before pixel_in (record_of b i j) i pixel
 
--- what the enum says
-unfoldable pub pixel_answer_is : PixelAnswer → Reply Pixel
-pixel_answer_is (answers.Refused r) = refusal r.number r.place r.entry
-pixel_answer_is (answers.Is p) = is p
+-- what the result says
+abbrev pub pixel_answer_is : Result Pixel Refusal → Reply Pixel
+pixel_answer_is r = reply r

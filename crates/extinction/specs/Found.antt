@@ -1,6 +1,6 @@
 -- The set of residual extinction, looked for in the arrays of a directory.
 -- Assumes nothing.
-use Rattle.std.specs.Prelude.{ℕ, Bool, cond, ◌&&◌, List, ltb, eqb, pos, get_or}
+use Rattle.std.specs.Prelude.{ℕ, Bool, cond, ◌&&◌, ltb, eqb, pos, get_or}
 use Rattle.layout.specs.Bytes.{bytes}
 use Rattle.layout.specs.Search.{only}
 use Rattle.layout.specs.Entries.{eq_z, called}
@@ -8,11 +8,11 @@ use Rattle.layout.specs.Answers.{name_at}
 use Rattle.layout.specs.declared.Directory.{Directory}
 
 -- entry i, by its type and name
-unfoldable pub is_extinction_in : List ℕ → List ℕ → ℕ → Bool
-is_extinction_in types names i = eqb (get_or types i 0) 77 && called (name_at names i) (bytes "EXT_MDS")
+unfoldable pub is_extinction_in : Directory → ℕ → Bool
+is_extinction_in d i = eqb (get_or d.types i 0) 77 && called (name_at d.names i) (bytes "EXT_MDS")
 
 -- the only one that is, if its record size is right; else 128
 unfoldable pub extinction_in : Directory → ℕ
 extinction_in d =
-    let i = only (is_extinction_in d.types d.names) d.entries in
+    let i = only (is_extinction_in d) d.entries in
     cond (ltb i d.entries && eq_z (get_or d.record_sizes i (pos 0)) (pos 25709)) i 128

@@ -1,13 +1,17 @@
-// GOMOS residual extinction (document 02, order 1): what one pixel of one record of the set EXT_MDS holds. It rests on the public calls of `product`.
+// GOMOS residual extinction (document 02, order 1): what one pixel of one record of the set EXT_MDS holds. It rests on an opened product, and on the public
+// call `record_part`.
 #![tactic(auto)]
 
-ghost use Rattle.std.specs.Prelude.{◌≡◌, ◌+◌, ◌-◌, ◌≤◌, ◌<◌, length};
-ghost use Rattle.layout.specs.Answer.{refusal};
-ghost use Rattle.layout.specs.Search.{find, only};
+ghost use Rattle.std.specs.Prelude.{◌≡◌, ◌+◌, ◌*◌, ◌-◌, ◌≤◌, ◌<◌, length};
+ghost use Rattle.layout.specs.Search.{find, only, Below};
+ghost use Rattle.layout.specs.Entries.{entries_from};
+ghost use Rattle.layout.specs.Lines.{size_of_dsd};
+ghost use Rattle.directory.specs.Numbers.{directory_with};
 ghost use Rattle.extinction.specs.Extinction.{single_at, model_of, pixel_of, pixel_in, pixel_reply, pixel_answer_is};
 ghost use Rattle.extinction.specs.Found.{is_extinction_in, extinction_in};
 
-use layout::{Directory, Refusal, Time, Verdict};
+use layout::{Directory, Refusal, Time, refuse};
+use opening::Opening;
 
 // The bytes of a record, and the pixels in it (source 001, table 10.5-13).
 const RECORD_SIZE: i64 = 25_709;
@@ -25,7 +29,7 @@ const MODELS: usize = 18_701;
 
 const FLAGS: usize = 23_373;
 
-// A single float, with its bits beside its value, since they are kept for a NaN too.
+// A single float, with its bits beside its value, since they are kept for a NaN too. `Field::Single` has the same two, but as one case of an enum.
 #[derive(Clone, Copy)]
 pub struct Single {
     pub value: f32,
@@ -44,85 +48,52 @@ pub struct Pixel {
     pub flag: u8,
 }
 
-#[derive(Clone, Copy)]
-pub enum PixelAnswer {
-    Refused(Refusal),
-    Is(Pixel),
-}
-
-impl PixelAnswer {
-    fn refuse(number: u8, place: u64, entry: usize) -> PixelAnswer
-        ensures { pixel_answer_is result ≡ refusal number place entry }
-    {
-        PixelAnswer::Refused(Refusal {
-            number,
-            place,
-            entry,
-        })
-    }
-}
-
 // ---- the set
 
 // An entry of type M named EXT_MDS.
-fn is_extinction<'a>(types: &'a [u8], names: &'a [u8], entry: usize) -> bool
-    requires { (entry < 128) × ((length types.now ≡ 128) × (length names.now ≡ 3584)) }
-    ensures { result ≡ is_extinction_in types.now names.now entry }
+#[tactic(auto, unfolding(crate::specs::Found::is_extinction_in, layout::specs::Answers::name_at))]
+fn is_extinction(directory: &Directory, entry: usize) -> bool
+    requires { entry < 128 }
+    ensures { result ≡ is_extinction_in directory.now entry }
 {
-    if types[entry] != b'M' {
-        return false;
-    }
-    text::is_called(names, 28 * entry, b"EXT_MDS")
+    directory.types[entry] == b'M' && text::is_called(&directory.names, 28 * entry, b"EXT_MDS")
 }
 
-// The first such entry from `from` on, or the number of entries.
-fn first_extinction<'a>(types: &'a [u8], names: &'a [u8], from: usize, entries: usize) -> usize
-    requires { ((from ≤ entries) × (entries ≤ 128)) × ((length types.now ≡ 128) × (length names.now ≡ 3584)) }
-    ensures { result ≡ find (is_extinction_in types.now names.now) from (entries - from) }
+// The first such entry from `from` on.
+fn first_extinction(directory: &Directory, from: usize) -> Option<usize>
+    requires { (from ≤ directory.now.entries) × (directory.now.entries ≤ 128) }
+    ensures { Below directory.now.entries result (find (is_extinction_in directory.now) from (directory.now.entries - from)) }
 {
-    let mut i = from;
-    while i < entries {
-        if is_extinction(types, names, i) {
-            return i;
-        }
-        i += 1;
-    }
-    entries
+    (from..directory.entries).find(|entry| is_extinction(directory, *entry))
 }
 
-// The only such entry, or the number of entries where there is none or a second.
-fn only_extinction<'a>(types: &'a [u8], names: &'a [u8], entries: usize) -> usize
-    requires { (entries ≤ 128) × ((length types.now ≡ 128) × (length names.now ≡ 3584)) }
-    ensures { result ≡ only (is_extinction_in types.now names.now) entries }
+// The only such entry, if there is exactly one. Looked for here and not by a function shared with `states`: the edit `first_of_two` changes these lines.
+fn only_extinction(directory: &Directory) -> Option<usize>
+    requires { directory.now.entries ≤ 128 }
+    ensures { Below directory.now.entries result (only (is_extinction_in directory.now) directory.now.entries) }
 {
-    let entry = first_extinction(types, names, 0, entries);
-    if entry == entries {
-        return entries;
+    let entry = first_extinction(directory, 0)?;
+    if first_extinction(directory, entry + 1).is_some() {
+        return None;
     }
-    if first_extinction(types, names, entry + 1, entries) != entries {
-        return entries;
-    }
-    entry
+    Some(entry)
 }
 
-// The entry of the set, or 128 where 22 refuses.
-fn extinction_entry(directory: Directory) -> usize
-    requires { directory.entries ≤ 128 }
-    ensures { result ≡ extinction_in directory }
+// The entry of the set, where 22 does not refuse.
+fn extinction_entry(directory: &Directory) -> Option<usize>
+    requires { directory.now.entries ≤ 128 }
+    ensures { Below 128 result (extinction_in directory.now) }
 {
-    let entries = directory.entries;
-    let entry = only_extinction(&directory.types, &directory.names, entries);
-    if entry == entries {
-        return Directory::PLACES;
-    }
+    let entry = only_extinction(directory)?;
     if directory.record_sizes[entry] != RECORD_SIZE {
-        return Directory::PLACES;
+        return None;
     }
-    entry
+    Some(entry)
 }
 
 // ---- a pixel of a record
 
+#[tactic(auto, unfolding(crate::specs::Extinction::single_at))]
 fn single_at(bytes: &[u8], offset: usize) -> Single
     requires { offset + 4 ≤ length bytes.now }
     ensures { result ≡ single_at bytes.now offset }
@@ -163,39 +134,42 @@ fn read_pixel(bytes: &[u8], pixel: usize) -> Pixel
 }
 
 // A pixel of a record, the entry of which is only answered: 23 comes before 24.
-fn pixel_in(bytes: &[u8], entry: usize, pixel: usize) -> PixelAnswer
+fn pixel_in(bytes: &[u8], entry: usize, pixel: usize) -> Result<Pixel, Refusal>
     requires { length bytes.now ≡ 25709 }
     ensures { pixel_answer_is result ≡ pixel_in bytes.now entry pixel }
 {
     if PIXELS <= pixel {
-        return PixelAnswer::refuse(23, pixel as u64, entry);
+        return refuse(23, pixel as u64, entry);
     }
     let read = read_pixel(bytes, pixel);
     if read.quality == -1 {
-        return PixelAnswer::refuse(24, QUALITY as u64, entry);
+        return refuse(24, QUALITY as u64, entry);
     }
-    PixelAnswer::Is(read)
+    Ok(read)
 }
 
 // ---- the call
 
+// The entry of the set in an opened product.
+#[inline(never)] // the directory is off the stack before the record is looked for
+fn entry_opened(p: &[u8], opened: &Opening) -> Option<usize>
+    requires { (opened.now.dsds + size_of_dsd * opened.now.sets.entries ≤ length p.now) × (opened.now.sets.entries ≤ 128) }
+    ensures { Below 128 result (extinction_in (directory_with opened.now.sets (entries_from p.now opened.now.dsds opened.now.sets.entries))) }
+{
+    extinction_entry(&directory::directory_from(p, opened.dsds, &opened.sets))
+}
+
 // A pixel of a record of the one set EXT_MDS. A record that is not there has no bytes, and every record of the set has some.
-pub fn pixel_at(p: &[u8], asked: usize, pixel: usize) -> PixelAnswer
+pub fn pixel_at(p: &[u8], asked: usize, pixel: usize) -> Result<Pixel, Refusal>
     ensures { pixel_answer_is result ≡ pixel_reply p.now asked pixel }
 {
-    let opened = product::open_directory(p);
-    let verdict = opened.verdict;
-    if let Verdict::Refused(refusal) = verdict {
-        return PixelAnswer::Refused(refusal);
-    }
-    let directory = opened.directory;
-    let entry = extinction_entry(directory);
-    if entry == Directory::PLACES {
-        return PixelAnswer::refuse(22, 0, Directory::PLACES);
-    }
+    let opened = opening::open_product(p)?;
+    let Some(entry) = entry_opened(p, &opened) else {
+        return refuse(22, 0, Directory::PLACES);
+    };
     let bytes = product::record_part(p, entry, asked);
-    if bytes.len() == 0 {
-        return PixelAnswer::refuse(18, 0, entry);
+    if bytes.is_empty() {
+        return refuse(18, 0, entry);
     }
     pixel_in(bytes, entry, pixel)
 }

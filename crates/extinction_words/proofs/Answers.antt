@@ -4,30 +4,27 @@ use Prim.Native.Nat.{ℕ}
 use mathlib.Core.List.{[], ◌∷◌}
 use mathlib.Core.Path.{◌≡◌, refl}
 use lib.ListN.{length}
+use Rattle.std.specs.Prelude.{Float, Result, Ok, Err, MatchResult}
 use Rattle.layout.specs.Answer.{Reply, refusal, is}
 use Rattle.layout.specs.declared.Refusal.{Refusal}
 use Rattle.words.specs.Words.{word, zero_float}
 use Rattle.extinction.specs.declared.Pixel.{Pixel}
-use Rattle.extinction.specs.declared.PixelAnswer.{PixelAnswer}
-use Rattle.extinction.specs.declared.PixelAnswer.TheVariants as answers
 use Rattle.extinction.specs.Extinction.{pixel_answer_is}
+use Rattle.layout.specs.Answers.{reply_is}
 use Rattle.extinction_words.specs.PixelWords.{value_words, pixel_words, model_double}
 
-pub no_pixel_words : (a : PixelAnswer) (r : Refusal) → a ≡ answers.Refused r → r.number ∷ r.place ∷ r.entry ∷ 0 ∷ 0 ∷ 0 ∷ 0 ∷ 0 ∷ 0 ∷ 0 ∷ 0 ∷ [] ≡ pixel_words (pixel_answer_is a)
-unfolding pixel_words pixel_answer_is
+pub no_pixel_words : (a : Result Pixel Refusal) (r : Refusal) → a ≡ Err r → r.number ∷ r.place ∷ r.entry ∷ 0 ∷ 0 ∷ 0 ∷ 0 ∷ 0 ∷ 0 ∷ 0 ∷ 0 ∷ [] ≡ pixel_words (pixel_answer_is a)
+unfolding pixel_words reply_is
 no_pixel_words a r h = rw h
 
-pub pixel-words : (a : PixelAnswer) (x : Pixel) → a ≡ answers.Is x → 0 ∷ 0 ∷ 0 ∷ value_words x ≡ pixel_words (pixel_answer_is a)
-unfolding pixel_words pixel_answer_is
+pub pixel-words : (a : Result Pixel Refusal) (x : Pixel) → a ≡ Ok x → 0 ∷ 0 ∷ 0 ∷ value_words x ≡ pixel_words (pixel_answer_is a)
+unfolding pixel_words reply_is
 pixel-words a x h = rw h
 
-pub no_model : (a : PixelAnswer) (r : Refusal) → a ≡ answers.Refused r → zero_float ∷ [] ≡ model_double (pixel_answer_is a)
-unfolding model_double pixel_answer_is
-no_model a r h = rw h
-
-pub the_model : (a : PixelAnswer) (x : Pixel) → a ≡ answers.Is x → x.model ∷ [] ≡ model_double (pixel_answer_is a)
-unfolding model_double pixel_answer_is
-the_model a x h = rw h
+pub the_model : (a : Result Pixel Refusal) (m : Float) → MatchResult a (λ x. m ≡ x.model) (λ r. m ≡ zero_float) → m ∷ [] ≡ model_double (pixel_answer_is a)
+unfolding model_double reply_is
+the_model (Ok x) m h = rw h
+the_model (Err r) m h = rw h
 
 pub values_are : (x : Pixel) (days quality : ℕ) → days ≡ word x.time.days → quality ≡ word x.quality
     → days ∷ x.time.seconds ∷ x.time.microseconds ∷ quality ∷ x.transmission.bits ∷ x.covariance.bits ∷ x.model_code ∷ x.flag ∷ [] ≡ value_words x

@@ -6,7 +6,8 @@ ghost use Rattle.writing.specs.Put.{Put};
 ghost use Rattle.extinction.specs.Extinction.{pixel_answer_is};
 ghost use Rattle.extinction_words.specs.PixelWords.{value_words, pixel_words, model_double};
 
-use extinction::{Pixel, PixelAnswer};
+use extinction::Pixel;
+use layout::Refusal;
 use words::{put_refusal, put_words, word_of};
 
 // All values of a pixel but its model.
@@ -28,38 +29,27 @@ fn value_words(pixel: Pixel) -> [u64; 8]
     ]
 }
 
-pub fn put_pixel(room: &mut [u64], answer: PixelAnswer) -> usize
+pub fn put_pixel(room: &mut [u64], answer: Result<Pixel, Refusal>) -> usize
     requires { 11 ≤ length room.old }
     ensures { Put 11 (pixel_words (pixel_answer_is answer)) room.old room.new 0 result }
 {
     match answer {
-        PixelAnswer::Refused(refusal) => {
-            let next = put_refusal(room, refusal);
-            put_words(room, next, &[0, 0, 0, 0, 0, 0, 0, 0])
+        Ok(pixel) => {
+            let next = put_words(room, 0, &[0; 3]);
+            put_words(room, next, &value_words(pixel))
         }
-        PixelAnswer::Is(pixel) => {
-            let words = value_words(pixel);
-            let next = put_words(room, 0, &[0, 0, 0]);
-            put_words(room, next, &words)
+        Err(refusal) => {
+            let next = put_refusal(room, refusal);
+            put_words(room, next, &[0; 8])
         }
     }
-}
-
-fn put_double(room: &mut [f64], value: f64) -> usize
-    requires { 1 ≤ length room.old }
-    ensures { Put 1 (value ∷ []) room.old room.new 0 result }
-{
-    room[0] = value;
-    1
 }
 
 // The model; beside a refusal zero.
-pub fn put_model(room: &mut [f64], answer: PixelAnswer) -> usize
+pub fn put_model(room: &mut [f64], answer: Result<Pixel, Refusal>) -> usize
     requires { 1 ≤ length room.old }
     ensures { Put 1 (model_double (pixel_answer_is answer)) room.old room.new 0 result }
 {
-    match answer {
-        PixelAnswer::Refused(_) => put_double(room, 0.0),
-        PixelAnswer::Is(pixel) => put_double(room, pixel.model),
-    }
+    room[0] = answer.map_or(0.0, |pixel| pixel.model);
+    1
 }

@@ -2,16 +2,15 @@
 -- Assumes nothing.
 use Prim.Native.Nat.{ℕ, ◌+◌, ◌*◌, ◌≤◌, ◌<◌}
 use mathlib.Core.List.{List, [], ◌∷◌, ◌++◌, map}
-use mathlib.Core.Path.{◌≡◌, refl, sym, ap, ◌∙◌}
+use mathlib.Core.Path.{◌≡◌, refl, sym, ap}
 use native.Mathlib.Omega.{arith}
-use native.Mathlib.Nat.{zero-add, add_assoc, add-mul, suc-mul, mul-le-mul_right}
-use native.Mathlib.Numerals.{add-one}
-use lib.ListN.{length, take, get_or, set}
+use native.Mathlib.Nat.{add_assoc, add-mul, suc-mul, mul-le-mul_right}
+use lib.ListN.{length, set}
 use lib.Seq.{sets}
 use Rattle.layout.specs.Search.{upto}
 use Rattle.layout.proofs.Laws.{map-one_more}
 use Rattle.layout.proofs.Sound.{length-map-upto}
-use Rattle.writing.proofs.Puts.{then, one_more}
+use Rattle.writing.proofs.Puts.{then, one_more, lent_part}
 use Rattle.field_bits.specs.Bits.{field_bits}
 
 pub stored-behind : (old mid new xs ys : List ℕ) (at m : ℕ) → m ≡ at + length xs → mid ≡ sets old at xs → new ≡ sets mid m ys → new ≡ sets old at (xs ++ ys)
@@ -27,10 +26,8 @@ next-stored f old now at k x h e =
     rw (map-one_more f k, ← e)
     (stored-behind old now (set now (at + k) x) (map f (upto 0 k)) (x ∷ []) at (at + k) (ap (λ (n : ℕ). at + n) (sym (length-map-upto f 0 k))) h refl)
 
--- one more of those that are copied
-pub next_copied : (old values now : List ℕ) (i : ℕ) → i < length values → now ≡ sets old 0 (take i values) → set now i (get_or values i 0) ≡ sets old 0 (take (i + 1) values)
-next_copied old values now i l h =
-    rw (add-one i) (ap (λ (k : ℕ). set now k (get_or values i 0)) (sym (zero-add i)) ∙ ap (λ (r : List ℕ). set r (0 + i) (get_or values i 0)) h ∙ one_more old values 0 i 0 l)
+-- what `store_fields` needs of that
+pub ruleset next = (next-stored, lent_part)
 
 -- ---- records of one size
 

@@ -1,40 +1,34 @@
-// The 32 bits of a field of the kinds 1 sc, 2 uc, 3 ss, 4 us, 5 sl, 6 ul, 7 fl (document 02, order 8), and those of many records, stored one behind the
-// other.
+// The 32 bits of a field of a narrow kind (document 02, order 8), and those of many records, stored one behind the other.
 #![tactic(auto)]
 
-ghost use Rattle.std.specs.Prelude.{map, ◌≡◌, ◌+◌, ◌*◌, ◌≤◌, ◌<◌, length};
+ghost use Rattle.std.specs.Prelude.{map, ◌≡◌, ◌+◌, ◌*◌, ◌≤◌, length};
 ghost use Rattle.std.proofs.lemmas.List.Edits.{sets};
-ghost use Rattle.layout.specs.Bytes.{twos_complement};
-ghost use Rattle.layout.specs.Fields.{shape_of, bytes_of, value_at};
+ghost use Rattle.layout.specs.Fields.{bytes_of, value_at};
 ghost use Rattle.layout.specs.Search.{upto};
-ghost use Rattle.field_bits.specs.Bits.{complement, bits_of, field_bits};
+ghost use Rattle.fields.specs.Kinds.{narrow_number, narrow_shape};
+ghost use Rattle.field_bits.specs.Bits.{bits_of, field_bits};
 
-// A number below twice `half`, negative from `half` on, with its sign in 32 bits.
-fn extended(v: u64, half: u64) -> u32
-    requires { (half ≤ 32768) × (v < 2 * half) }
-    ensures { result ≡ complement (twos_complement half v) }
-{
-    if v < half {
-        return v as u32;
-    }
-    (0xffff_ffff - (2 * half - 1 - v)) as u32
-}
+use fields::NarrowKind;
 
 // The bits of four bytes are sl's two's complement, ul's number and fl's float as they stand.
-fn bits_at(bytes: &[u8], offset: usize, kind: usize) -> u32
-    requires { (1 ≤ kind) × (kind ≤ 7) × (offset + bytes_of (shape_of kind) ≤ length bytes.now) }
-    ensures { result ≡ bits_of (value_at bytes.now offset (shape_of kind)) }
+#[tactic(auto, using(crate::proofs::Complement::four_bytes), unfolding(layout::specs::Fields::shape_of, layout::specs::Fields::bytes_of, layout::specs::Fields::value_at, layout::specs::Bytes::signed_at, crate::specs::Bits::bits_of, crate::specs::Bits::complement))]
+fn bits_at(bytes: &[u8], offset: usize, kind: NarrowKind) -> u32
+    requires { offset + bytes_of (narrow_shape kind) ≤ length bytes.now }
+    ensures { result ≡ bits_of (value_at bytes.now offset (narrow_shape kind)) }
 {
     match kind {
-        1 => extended(octets::unsigned(bytes, offset, 1), 0x80),
-        2 => octets::unsigned(bytes, offset, 1) as u32,
-        3 => extended(octets::unsigned(bytes, offset, 2), 0x8000),
-        4 => octets::unsigned(bytes, offset, 2) as u32,
-        _ => octets::unsigned(bytes, offset, 4) as u32,
+        NarrowKind::SignedChar => (octets::signed(bytes, offset, 1) as i32).cast_unsigned(),
+        NarrowKind::UnsignedChar => octets::unsigned(bytes, offset, 1) as u32,
+        NarrowKind::SignedShort => (octets::signed(bytes, offset, 2) as i32).cast_unsigned(),
+        NarrowKind::UnsignedShort => octets::unsigned(bytes, offset, 2) as u32,
+        NarrowKind::SignedLong | NarrowKind::UnsignedLong | NarrowKind::Float => {
+            octets::unsigned(bytes, offset, 4) as u32
+        }
     }
 }
 
 // The fields of so many records of one length, the first of which begins at a place, stored from place `at` of the column on.
+#[tactic(auto, using(crate::proofs::Stored::next), unfolding(crate::specs::Bits::field_bits))]
 pub fn store_fields(
     column: &mut [u32],
     at: usize,
@@ -43,16 +37,13 @@ pub fn store_fields(
     size: usize,
     count: usize,
     offset: usize,
-    kind: usize,
+    kind: NarrowKind,
 )
-    requires { (at + count ≤ length column.old) × (place + count * size ≤ length p.now) × (1 ≤ kind) × (kind ≤ 7) × (offset + bytes_of (shape_of kind) ≤ size) }
-    ensures { column.new ≡ sets column.old at (map (field_bits p.now place size offset kind) (upto 0 count)) }
+    requires { (at + count ≤ length column.old) × (place + count * size ≤ length p.now) × (offset + bytes_of (narrow_shape kind) ≤ size) }
+    ensures { column.new ≡ sets column.old at (map (field_bits p.now place size offset (narrow_number kind)) (upto 0 count)) }
 {
-    let mut k = 0;
-    while k < count {
+    for k in 0..count {
         let start = place + k * size;
-        let end = start + size;
-        column[at + k] = bits_at(&p[start..end], offset, kind);
-        k += 1;
+        column[at + k] = bits_at(&p[start..start + size], offset, kind);
     }
 }

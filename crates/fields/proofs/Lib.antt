@@ -1,5 +1,3 @@
--- The laws that the proofs of this crate cite, and how far a point is from the exact quotients. Assumes nothing.
-mod Shapes
-mod Limits
-mod Points
+-- The laws that the check uses, and how far points are from the exact quotients. Assumes nothing.
+pub mod Laws
 pub mod Distance

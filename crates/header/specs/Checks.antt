@@ -1,11 +1,11 @@
 -- Rules 1 to 6 of document 01 together, in the groups that the code checks, and what they give of an accepted header.
 -- Assumes nothing.
-use Rattle.std.specs.Prelude.{ℕ, ◌+◌, ◌*◌, ◌≤◌, List, [], ◌≡◌}
-use Rattle.layout.specs.Answer.{Answer, accepted, ◌or_else◌}
+use Rattle.std.specs.Prelude.{ℕ, ◌+◌, ◌*◌, ◌≤◌, List, [], Result, Ok, ◌≡◌}
+use Rattle.layout.specs.Answer.{Answer, ◌or_else◌}
 use Rattle.layout.specs.Entries.{headers_end, entries}
 use Rattle.layout.specs.Rules.{rule1, rule2, rule4, rule5, rules1to6}
 use Rattle.layout.specs.Answers.{verdict_is}
-use Rattle.layout.specs.declared.Verdict.{Verdict}
+use Rattle.layout.specs.declared.Refusal.{Refusal}
 use Rattle.header.specs.declared.HeaderCheck.{HeaderCheck}
 
 -- rules 1 and 2 look at no byte
@@ -24,15 +24,10 @@ pub record HeadersFit (b : List ℕ) (n : ℕ) (r : HeaderCheck) : Type 0 where
   pub dsds-fit : 1247 + 280 * r.entries ≤ r.headers_end
   pub end_most : r.headers_end ≤ 50399
 
--- a verdict, and nothing beside it
-abbrev pub alone : Verdict → HeaderCheck
-alone v = record { verdict = v; headers_end = 0; entries = 0 }
+-- the answer to these rules, rule 6 the last of them
+pub record CheckedBy (rules : Answer) (b : List ℕ) (n : ℕ) (r : Result HeaderCheck Refusal) : Type 0 where
+  pub verdict-is : verdict_is r ≡ rules
+  pub headers : (h : HeaderCheck) → r ≡ Ok h → HeadersFit b n h
 
--- the answer to these rules, rule 6 the last of them; beside a refusal there is nothing else
-pub record CheckedBy (rules : Answer) (b : List ℕ) (n : ℕ) (r : HeaderCheck) : Type 0 where
-  pub verdict-is : verdict_is r.verdict ≡ rules
-  pub headers : rules ≡ accepted → HeadersFit b n r
-  pub nothing : (rules ≡ accepted → ⊥) → (r.headers_end ≡ 0) × (r.entries ≡ 0)
-
-abbrev pub HeaderChecked : List ℕ → ℕ → HeaderCheck → Type 0
+abbrev pub HeaderChecked : List ℕ → ℕ → Result HeaderCheck Refusal → Type 0
 HeaderChecked b n r = CheckedBy (rules1to6 b n) b n r

@@ -2,6 +2,7 @@ pub mod Starts
 pub mod Laws
 pub mod Only
 pub mod Replies
+pub mod Below
 pub mod Types
 pub mod Widths
 pub mod Tests

@@ -1,26 +1,39 @@
 -- The laws of replies: what it says that a reply is a value, or a refusal; and how high the number of a refusal goes.
 -- Assumes nothing.
 use Prim.Native.Nat.{ℕ, ◌≤◌}
+use Rattle.std.specs.Prelude.{Result, Ok, Err, IsErr, IsErrAnd}
+use Rattle.std.proofs.lemmas.Result.{err_from_is_err_and}
 use mathlib.Core.Bool.{Bool, true, false}
 use mathlib.Core.Logic.{◌⊎◌, inl, inr}
-use mathlib.Core.Path.{◌≡◌, refl, sym, ◌∙◌}
+use mathlib.Core.Path.{◌≡◌, refl, sym, ap, ◌∙◌}
 use native.Mathlib.Omega.{arith}
 use Rattle.layout.specs.Answer.{Answer, accepted, refused, need, Reply, refusal, is, ◌or_else◌, ◌else◌, ◌before◌}
-use Rattle.layout.specs.Answers.{verdict_is}
+use Rattle.layout.specs.Answers.{reply_is, verdict_is}
 use Rattle.layout.specs.declared.Refusal.{Refusal}
-use Rattle.layout.specs.declared.Verdict.{Verdict}
-use Rattle.layout.specs.declared.Verdict.TheVariants.{Accepted, Refused}
 use Rattle.layout.proofs.Laws.{accepted≢refused}
 
--- ---- what a verdict tells of the answer that it is
+-- ---- what a result tells of the answer that it is
 
-pub told-refused : (v : Verdict) (r : Refusal) (a : Answer) → v ≡ Refused r → verdict_is v ≡ a → a ≡ refused r.number r.place r.entry
-unfolding verdict_is
-told-refused v r a q h = sym h ∙ rw q
+module _ {A : Type 0} where
+  pub told-refused : (v : Result A Refusal) (r : Refusal) (a : Answer) → v ≡ Err r → verdict_is v ≡ a → a ≡ refused r.number r.place r.entry
+  unfolding verdict_is
+  told-refused v r a q h = sym h ∙ rw q
 
-pub told-accepted : (v : Verdict) (a : Answer) → v ≡ Accepted → verdict_is v ≡ a → a ≡ accepted
-unfolding verdict_is
-told-accepted v a q h = sym h ∙ rw q
+  pub told-accepted : (v : Result A Refusal) (x : A) (a : Answer) → v ≡ Ok x → verdict_is v ≡ a → a ≡ accepted
+  unfolding verdict_is
+  told-accepted v x a q h = sym h ∙ rw q
+
+  -- what a `?` hands on is the refusal that it met
+  pub handed_on : (r : Result A Refusal) (f : Refusal) → IsErr r × IsErrAnd r (λ g. g ≡ f) → r ≡ Err f
+  handed_on r f h = let e = err_from_is_err_and r h.1 in e.1 ∙ ap Err e.2
+
+  pub handed-verdict : (r : Result A Refusal) (f : Refusal) → IsErr r × IsErrAnd r (λ g. g ≡ f) → verdict_is r ≡ refused f.number f.place f.entry
+  unfolding verdict_is
+  handed-verdict r f h = rw (handed_on r f h)
+
+  pub handed-reply : {B : Type 0} (says : A → B) (r : Result A Refusal) (f : Refusal) → IsErr r × IsErrAnd r (λ g. g ≡ f) → reply_is says r ≡ refusal f.number f.place f.entry
+  unfolding reply_is
+  handed-reply says r f h = rw (handed_on r f h)
 
 -- ---- a reply's value
 

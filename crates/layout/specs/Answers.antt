@@ -1,6 +1,6 @@
--- The answers of `src/` as document 01 has them: for each case of an enum its number and values, and what the structs hold.
+-- The answers of `src/` as document 01 has them: a refusal's number, place and entry, or what the value says.
 -- Assumes nothing.
-use Rattle.std.specs.Prelude.{ℕ, ◌+◌, ◌*◌, ◌-◌, List, ◌++◌, map, ℤ, pos, length, replicate}
+use Rattle.std.specs.Prelude.{ℕ, ◌+◌, ◌*◌, ◌-◌, List, ◌++◌, map, ℤ, pos, length, replicate, Result, Ok, Err}
 use Rattle.layout.specs.Bytes.{part, unsigned_at, signed_at}
 use Rattle.layout.specs.Text.{whole}
 use Rattle.layout.specs.Answer.{Answer, accepted, refused, Reply, refusal, is}
@@ -9,28 +9,34 @@ use Rattle.layout.specs.Entries.{Entry, directory, start, extent}
 use Rattle.layout.specs.Order.{ranks_of}
 use Rattle.layout.specs.Records.{Span}
 use Rattle.layout.specs.Fields.{Value, integer, single, double, time, Position}
-use Rattle.layout.specs.declared.Verdict.{Verdict}
-use Rattle.layout.specs.declared.Verdict.TheVariants as verdict-cases
-use Rattle.layout.specs.declared.Place.{Place}
-use Rattle.layout.specs.declared.Place.TheVariants as place-cases
+use Rattle.layout.specs.declared.Refusal.{Refusal}
+use Rattle.layout.specs.declared.Span.{Span as SpanAnswered}
 use Rattle.layout.specs.declared.Time.{Time}
 use Rattle.layout.specs.declared.Field.{Field}
 use Rattle.layout.specs.declared.Field.TheVariants as field-cases
-use Rattle.layout.specs.declared.FieldAnswer.{FieldAnswer}
-use Rattle.layout.specs.declared.FieldAnswer.TheVariants as field-answers
-use Rattle.layout.specs.declared.PointAnswer.{PointAnswer}
-use Rattle.layout.specs.declared.PointAnswer.TheVariants as point-answers
+use Rattle.layout.specs.declared.Point.{Point}
 use Rattle.layout.specs.declared.Directory.{Directory}
 
--- ---- enums
+-- ---- results
 
-unfoldable pub verdict_is : Verdict → Answer
-verdict_is verdict-cases.Accepted = accepted
-verdict_is (verdict-cases.Refused r) = refused r.number r.place r.entry
+-- the refusal, or what the value says
+unfoldable pub reply_is : {A B : Type 0} → (A → B) → Result A Refusal → Reply B
+reply_is says (Ok x) = is (says x)
+reply_is says (Err r) = refusal r.number r.place r.entry
 
-unfoldable pub place_is : Place → Reply Span
-place_is (place-cases.At p n) = is (record { place = p; length = n })
-place_is (place-cases.Refused r) = refusal r.number r.place r.entry
+abbrev pub reply : {A : Type 0} → Result A Refusal → Reply A
+reply r = reply_is (λ x. x) r
+
+-- the refusal alone
+unfoldable pub verdict_is : {A : Type 0} → Result A Refusal → Answer
+verdict_is (Ok x) = accepted
+verdict_is (Err r) = refused r.number r.place r.entry
+
+abbrev pub span_is : SpanAnswered → Span
+span_is s = record { place = s.place; length = s.length }
+
+abbrev pub place_is : Result SpanAnswered Refusal → Reply Span
+place_is r = reply_is span_is r
 
 unfoldable pub field_is : Field → Value
 field_is (field-cases.Whole v) = integer v
@@ -38,13 +44,14 @@ field_is (field-cases.Single v bits) = single v bits
 field_is (field-cases.Double v bits) = double v bits
 field_is (field-cases.Time t) = time t.days t.seconds t.microseconds
 
-unfoldable pub field_answer_is : FieldAnswer → Reply Value
-field_answer_is (field-answers.Refused r) = refusal r.number r.place r.entry
-field_answer_is (field-answers.Is f) = is (field_is f)
+abbrev pub field_answer_is : Result Field Refusal → Reply Value
+field_answer_is r = reply_is field_is r
 
-unfoldable pub point_answer_is : PointAnswer → Reply Position
-point_answer_is (point-answers.Refused r) = refusal r.number r.place r.entry
-point_answer_is (point-answers.At p) = is (record { latitude = p.latitude; longitude = p.longitude; altitude = p.altitude })
+abbrev pub position_is : Point → Position
+position_is p = record { latitude = p.latitude; longitude = p.longitude; altitude = p.altitude }
+
+abbrev pub point_answer_is : Result Point Refusal → Reply Position
+point_answer_is r = reply_is position_is r
 
 -- ---- a time
 

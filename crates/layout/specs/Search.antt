@@ -1,7 +1,7 @@
 -- Searches by number: the first refusal, whether some number passes, how many pass, the first that passes. So the lowest entry and the lowest
 -- place of a rule fall out of its definition.
 -- Assumes nothing.
-use Rattle.std.specs.Prelude.{ℕ, zero, suc, ◌+◌, Bool, false, cond, ◌||◌, List, [], ◌∷◌, ◌++◌, ◌⊎◌, eqb}
+use Rattle.std.specs.Prelude.{ℕ, zero, suc, ◌+◌, Bool, false, cond, ◌||◌, List, [], ◌∷◌, ◌++◌, ◌⊎◌, eqb, ◌≡◌, ◌<◌, Option, Some as JustOne, None}
 use Rattle.layout.specs.Answer.{Answer, accepted, refused, need, ◌or_else◌}
 use Rattle.layout.specs.Text.{Class, fits}
 
@@ -24,6 +24,11 @@ count t i (suc n) = cond (t i) 1 0 + count t (suc i) n
 unfoldable pub find : (ℕ → Bool) → ℕ → ℕ → ℕ
 find t i zero = i
 find t i (suc n) = let r = find t (suc i) n in cond (t i) i r
+
+-- what a search among the numbers below n answers, where n is found for none
+abbrev pub Below : ℕ → Option ℕ → ℕ → Type 0
+Below n (JustOne i) found = (i ≡ found) × (i < n)
+Below n None found = found ≡ n
 
 -- the only one of the n numbers from 0 on that passes, or n where none or several do
 unfoldable pub only : (ℕ → Bool) → ℕ → ℕ

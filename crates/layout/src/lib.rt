@@ -2,9 +2,9 @@
 // cite both.
 #![tactic(auto)]
 
-ghost use Rattle.std.specs.Prelude.{◌≡◌};
-ghost use Rattle.layout.specs.Answer.{refused, refusal};
-ghost use Rattle.layout.specs.Answers.{verdict_is, place_is, no_directory};
+ghost use Rattle.std.specs.Prelude.{◌≡◌, Err};
+ghost use Rattle.layout.specs.Answer.{refused};
+ghost use Rattle.layout.specs.Answers.{verdict_is, no_directory};
 
 // A refusal carries these three and nothing else. The place is a byte offset; the entry is 0 to 127, or 128 for none.
 #[derive(Clone, Copy)]
@@ -14,42 +14,27 @@ pub struct Refusal {
     pub entry: usize,
 }
 
-// What a product, or a call that answers an array beside it, is told.
-#[derive(Clone, Copy)]
-pub enum Verdict {
-    Accepted,
-    Refused(Refusal),
+impl Refusal {
+    pub const NO_ENTRY: usize = 128;
 }
 
-impl Verdict {
-    pub fn refuse(number: u8, place: u64, entry: usize) -> Verdict
-        ensures { verdict_is result ≡ refused number place entry }
-    {
-        Verdict::Refused(Refusal {
-            number,
-            place,
-            entry,
-        })
-    }
+// What a call answers that refuses.
+pub fn refuse<T>(number: u8, place: u64, entry: usize) -> Result<T, Refusal>
+    ensures is { result ≡ Err (record { number = number; place = place; entry = entry }) }
+    ensures judged { verdict_is result ≡ refused number place entry }
+{
+    Err(Refusal {
+        number,
+        place,
+        entry,
+    })
 }
 
 // Where the SPH lines or a record stand in the product.
 #[derive(Clone, Copy)]
-pub enum Place {
-    At { place: u64, length: u64 },
-    Refused(Refusal),
-}
-
-impl Place {
-    pub fn refuse(number: u8, place: u64, entry: usize) -> Place
-        ensures { place_is result ≡ refusal number place entry }
-    {
-        Place::Refused(Refusal {
-            number,
-            place,
-            entry,
-        })
-    }
+pub struct Span {
+    pub place: u64,
+    pub length: u64,
 }
 
 // An mjd: days from 1 January 2000, seconds, microseconds.
@@ -69,12 +54,6 @@ pub enum Field {
     Time(Time),
 }
 
-#[derive(Clone, Copy)]
-pub enum FieldAnswer {
-    Refused(Refusal),
-    Is(Field),
-}
-
 // Latitude and longitude in degrees, altitude in metres.
 #[derive(Clone, Copy)]
 pub struct Point {
@@ -83,14 +62,8 @@ pub struct Point {
     pub altitude: f64,
 }
 
-#[derive(Clone, Copy)]
-pub enum PointAnswer {
-    Refused(Refusal),
-    At(Point),
-}
-
 // Up to 128 entries held together, unused places zero. A name is 28 bytes and a FILENAME 62, entry after entry. The rank of an entry is how many non-empty
-// sets start before its own; an entry without a non-empty set has 128.
+// sets start before its own; an entry without a non-empty set has 128. The arrays stand beside each other as `directory_of` has them, and as C gets them.
 #[derive(Clone, Copy)]
 pub struct Directory {
     pub entries: usize,
@@ -107,7 +80,7 @@ pub struct Directory {
 impl Directory {
     pub const PLACES: usize = 128;
 
-    // What stands beside a refusal.
+    // What a host is shown beside a refusal.
     pub fn none() -> Directory
         ensures { result ≡ no_directory }
     {
@@ -123,10 +96,4 @@ impl Directory {
             ranks: [0; 128],
         }
     }
-}
-
-#[derive(Clone, Copy)]
-pub struct DirectoryAnswer {
-    pub verdict: Verdict,
-    pub directory: Directory,
 }

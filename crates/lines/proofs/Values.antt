@@ -1,52 +1,52 @@
 -- The spans of a value and of a line, one after another.
 -- Assumes nothing.
-use Prim.Native.Nat.{ℕ, ◌+◌, ◌-◌, ◌≤◌, ◌<◌}
+use Prim.Native.Nat.{ℕ, ◌+◌, ◌-◌, ◌<◌}
 use mathlib.Core.Bool.{true, false}
 use mathlib.Core.List.{List, [], ◌∷◌}
-use mathlib.Core.Path.{◌≡◌, sym, ◌∙◌}
+use mathlib.Core.Path.{◌≡◌, sym, ap, ◌∙◌}
+use Rattle.std.specs.Prelude.{Result, Ok, Err}
 use native.Mathlib.Omega.{arith}
-use lib.Dec.{T, eqb→eq, leb→le}
 use lib.ListN.{length, get_or, replicate, length-replicate}
 use borrow.Author.Tests.{eq-eqb, ne_eqb}
-use Rattle.layout.specs.Bytes.{bytes}
-use Rattle.layout.specs.Text.{Class, exactly, plain, sign, digit, among, fits, s, s_ab, spare, value_classes, line_classes}
-use Rattle.layout.specs.Search.{find}
-use Rattle.text.specs.Blanks.{not_blank}
-use Rattle.lines.specs.Table.{bad_place, value_laid, width_fits}
-use Rattle.lines.proofs.Spans.{after-good, after-bad, here_good, here_bad, blanks-bad}
+use Rattle.layout.specs.Text.{Class, exactly, sign, digit, fits, s, s_ab, spare, value_classes, line_classes}
+use Rattle.lines.specs.Table.{bad_place, checked}
+use Rattle.lines.proofs.Spans.{checked-good, then-good, then-bad, here_good, here_bad}
 
--- ---- a spare line: r is where its blanks end
+-- ---- a spare line of n blanks
 
-module _ (b : List ℕ) (from n r : ℕ) (found : r ≡ find (not_blank b) from (from + n - from)) where
-  blanks : bad_place (replicate n (exactly 32)) b from ≡ r
-  blanks = let q : from + n - from ≡ n = omega arith in sym (found ∙ rw q (blanks-bad b from n))
+module _ (b : List ℕ) (n : ℕ) where
+  abbrev blanks : List Class
+  blanks = replicate n (exactly 32)
 
-  reach : from + n ≡ from + length (replicate n (exactly 32))
-  reach = rw (length-replicate n (exactly 32))
+  reach : n ≡ 0 + length blanks
+  reach = rw (length-replicate n (exactly 32)) (omega arith)
 
-  pub spare_blank : (r ≡ from + n → ⊥) → r ≡ bad_place (line_classes (spare n)) b from
+  pub spare_blank : {r : ℕ} → Err r ≡ checked n (bad_place blanks b 0) → Err r ≡ checked (n + 1) (bad_place (line_classes (spare n)) b 0)
   unfolding line_classes
-  spare_blank h = sym (after-bad (replicate n (exactly 32)) (exactly 10 ∷ []) b from (from + n) reach (λ e. h (sym blanks ∙ e)) ∙ blanks)
+  spare_blank h = then-bad blanks (exactly 10 ∷ []) b 0 n (n + 1) reach (omega arith) h
 
-  pub spare_ending : r ≡ from + n → (get_or b (from + n) 0 ≡ 10 → ⊥) → from + n ≡ bad_place (line_classes (spare n)) b from
-  unfolding line_classes fits
-  spare_ending e h = sym (after-good (replicate n (exactly 32)) (exactly 10 ∷ []) b from (from + n) reach (blanks ∙ e) ∙ here_bad (exactly 10) [] b (from + n) (ne_eqb _ _ h))
+  module _ {x : Unit {0}} (good : Ok x ≡ checked n (bad_place blanks b 0)) where
+    pub spare_ending : (get_or b n 0 ≡ 10 → ⊥) → Err n ≡ checked (n + 1) (bad_place (line_classes (spare n)) b 0)
+    unfolding line_classes fits
+    spare_ending h = here_bad (exactly 10) [] b n (n + 1) (ne_eqb _ _ h) (omega arith) ∙ sym (then-good blanks (exactly 10 ∷ []) b 0 n (n + 1) reach good)
 
-  pub spare-whole : r ≡ from + n → get_or b (from + n) 0 ≡ 10 → from + n + 1 ≡ bad_place (line_classes (spare n)) b from
-  unfolding line_classes fits bad_place
-  spare-whole e h = sym (after-good (replicate n (exactly 32)) (exactly 10 ∷ []) b from (from + n) reach (blanks ∙ e) ∙ here_good (exactly 10) [] b (from + n) (eq-eqb _ _ h))
+    pub spare-whole : get_or b n 0 ≡ 10 → Ok tt ≡ checked (n + 1) (bad_place (line_classes (spare n)) b 0)
+    unfolding line_classes fits bad_place
+    spare-whole h = checked-good (n + 1) _ (here_good (exactly 10) [] b n (n + 1) (eq-eqb _ _ h)) ∙ sym (then-good blanks (exactly 10 ∷ []) b 0 n (n + 1) reach good)
 
--- ---- a whole number, and one with decimals: r is where its sign and first digits end
+-- ---- a whole number, and one with decimals
 
-pub whole-bad : (b : List ℕ) (from n : ℕ) → fits sign (get_or b from 0) ≡ false → from ≡ bad_place (value_classes (s n)) b from
-unfolding value_classes
-whole-bad b from n h = sym (here_bad sign _ b from h)
+module _ (b : List ℕ) (from n to : ℕ) where
+  pub whole-bad : fits sign (get_or b from 0) ≡ false → from < to → Err from ≡ checked to (bad_place (value_classes (s n)) b from)
+  unfolding value_classes
+  whole-bad h l = here_bad sign _ b from to h l
 
-pub whole-good : (b : List ℕ) (from n r : ℕ) → fits sign (get_or b from 0) ≡ true → r ≡ bad_place (replicate n digit) b (from + 1) → r ≡ bad_place (value_classes (s n)) b from
-unfolding value_classes
-whole-good b from n r h e = e ∙ sym (here_good sign _ b from h)
+  pub whole-good : {v : Result (Unit {0}) ℕ} → fits sign (get_or b from 0) ≡ true → v ≡ checked to (bad_place (replicate n digit) b (from + 1))
+      → v ≡ checked to (bad_place (value_classes (s n)) b from)
+  unfolding value_classes
+  whole-good h e = e ∙ ap (checked to) (sym (here_good sign _ b from to h))
 
-module _ (b : List ℕ) (from point n r : ℕ) (room : from < point) (found : r ≡ bad_place (value_classes (s (point - (from + 1)))) b from) where
+module _ (b : List ℕ) (from point n to : ℕ) (room : from < point) (inside : point < to) where
   ahead : List Class
   ahead = sign ∷ replicate (point - (from + 1)) digit
 
@@ -54,85 +54,28 @@ module _ (b : List ℕ) (from point n r : ℕ) (room : from < point) (found : r 
   unfolding ahead
   reached = rw (length-replicate (point - (from + 1)) digit) (omega arith)
 
-  pub decimal-bad : (r ≡ point → ⊥) → r ≡ bad_place (value_classes (s_ab (point - (from + 1)) n)) b from
+  pub decimal-bad : {r : ℕ} → Err r ≡ checked point (bad_place (value_classes (s (point - (from + 1)))) b from)
+      → Err r ≡ checked to (bad_place (value_classes (s_ab (point - (from + 1)) n)) b from)
   unfolding value_classes ahead
-  decimal-bad h = found ∙ sym (after-bad ahead (exactly 46 ∷ replicate n digit) b from point reached (λ e. h (found ∙ e)))
+  decimal-bad h = then-bad ahead (exactly 46 ∷ replicate n digit) b from point to reached (omega arith) h
 
-  pub decimal_point : r ≡ point → (get_or b point 0 ≡ 46 → ⊥) → point ≡ bad_place (value_classes (s_ab (point - (from + 1)) n)) b from
-  unfolding value_classes ahead fits
-  decimal_point e h = sym (after-good ahead (exactly 46 ∷ replicate n digit) b from point reached (sym found ∙ e) ∙ here_bad (exactly 46) _ b point (ne_eqb _ _ h))
+  module _ {x : Unit {0}} (good : Ok x ≡ checked point (bad_place (value_classes (s (point - (from + 1)))) b from)) where
+    pub decimal_point : (get_or b point 0 ≡ 46 → ⊥) → Err point ≡ checked to (bad_place (value_classes (s_ab (point - (from + 1)) n)) b from)
+    unfolding value_classes ahead fits
+    decimal_point h = here_bad (exactly 46) _ b point to (ne_eqb _ _ h) inside ∙ sym (then-good ahead (exactly 46 ∷ replicate n digit) b from point to reached good)
 
-  pub decimal-good : r ≡ point → get_or b point 0 ≡ 46 → (q : ℕ) → q ≡ bad_place (replicate n digit) b (point + 1) → q ≡ bad_place (value_classes (s_ab (point - (from + 1)) n)) b from
-  unfolding value_classes ahead fits
-  decimal-good e h q found2 = found2 ∙ sym (after-good ahead (exactly 46 ∷ replicate n digit) b from point reached (sym found ∙ e) ∙ here_good (exactly 46) _ b point (eq-eqb _ _ h))
+    pub decimal-good : get_or b point 0 ≡ 46 → {v : Result (Unit {0}) ℕ} → v ≡ checked to (bad_place (replicate n digit) b (point + 1))
+        → v ≡ checked to (bad_place (value_classes (s_ab (point - (from + 1)) n)) b from)
+    unfolding value_classes ahead fits
+    decimal-good h found =
+        found ∙ sym (then-good ahead (exactly 46 ∷ replicate n digit) b from point to reached good ∙ ap (checked to) (here_good (exactly 46) _ b point to (eq-eqb _ _ h)))
 
--- ---- a value by its kind
+-- ---- a value of one byte
 
-module _ (k w : ℕ) where
-  pub flag_width : k ≡ 102 → T (width_fits k w) → w ≡ 1
-  unfolding width_fits
-  flag_width e h = eqb→eq w 1 (rw e at h)
-
-  pub type_width : k ≡ 116 → T (width_fits k w) → w ≡ 1
-  unfolding width_fits
-  type_width e h = eqb→eq w 1 (rw e at h)
-
-  pub whole_width : k ≡ 115 → T (width_fits k w) → 1 ≤ w
-  unfolding width_fits
-  whole_width e h = leb→le 1 w (rw e at h)
-
-  pub thousandths_width : k ≡ 109 → T (width_fits k w) → 5 ≤ w
-  unfolding width_fits
-  thousandths_width e h = leb→le 5 w (rw e at h)
-
-  module _ (a1 : k ≡ 113 → ⊥) (a2 : k ≡ 32 → ⊥) (a3 : k ≡ 102 → ⊥) (a4 : k ≡ 116 → ⊥) (a5 : k ≡ 115 → ⊥) (a6 : k ≡ 109 → ⊥) where
-    pub millionths_width : T (width_fits k w) → 8 ≤ w
-    unfolding width_fits
-    millionths_width h = leb→le 8 w (rw (ne_eqb k 113 a1, ne_eqb k 32 a2, ne_eqb k 102 a3, ne_eqb k 116 a4, ne_eqb k 115 a5, ne_eqb k 109 a6) at h)
-
-    pub millionths_laid : value_laid k w ≡ value_classes (s_ab (w - 8) 6)
-    unfolding value_laid
-    millionths_laid = rw (ne_eqb k 113 a1, ne_eqb k 32 a2, ne_eqb k 102 a3, ne_eqb k 116 a4, ne_eqb k 115 a5, ne_eqb k 109 a6)
-
-pub text-laid : (k w : ℕ) → k ≡ 113 → value_laid k w ≡ replicate w plain
-unfolding value_laid
-text-laid k w e = rw e
-
-pub blanks-laid : (k w : ℕ) → k ≡ 32 → value_laid k w ≡ replicate w (exactly 32)
-unfolding value_laid
-blanks-laid k w e = rw e
-
-pub flag-laid : (k w : ℕ) → k ≡ 102 → value_laid k w ≡ among (bytes "01") ∷ []
-unfolding value_laid
-flag-laid k w e = rw e
-
-pub type-laid : (k w : ℕ) → k ≡ 116 → value_laid k w ≡ among (bytes "MAGR") ∷ []
-unfolding value_laid
-type-laid k w e = rw e
-
-pub whole-laid : (k w : ℕ) → k ≡ 115 → value_laid k w ≡ value_classes (s (w - 1))
-unfolding value_laid
-whole-laid k w e = rw e
-
-pub thousandths_laid : (k w : ℕ) → k ≡ 109 → value_laid k w ≡ value_classes (s_ab (w - 5) 3)
-unfolding value_laid
-thousandths_laid k w e = rw e
-
--- a value of one byte, and numbers by their ends
-module _ (b : List ℕ) (from to r : ℕ) (ks : List Class) where
-  pub one-good : (k : Class) → ks ≡ k ∷ [] → from ≤ to → to - from ≡ 1 → fits k (get_or b from 0) ≡ true → to ≡ bad_place ks b from
+module _ (b : List ℕ) (from to : ℕ) (k : Class) (w : to - from ≡ 1) where
+  pub one-good : fits k (get_or b from 0) ≡ true → Ok tt ≡ checked to (bad_place (k ∷ []) b from)
   unfolding bad_place
-  one-good k e l w h = let q : to ≡ from + 1 = omega arith in rw e (sym (here_good k [] b from h ∙ sym q))
+  one-good h = checked-good to _ (here_good k [] b from to h ∙ omega arith)
 
-  pub one-bad : (k : Class) → ks ≡ k ∷ [] → fits k (get_or b from 0) ≡ false → from ≡ bad_place ks b from
-  one-bad k e h = rw e (sym (here_bad k [] b from h))
-
-  pub whole_by_end : ks ≡ value_classes (s (to - from - 1)) → r ≡ bad_place (value_classes (s (to - (from + 1)))) b from → r ≡ bad_place ks b from
-  whole_by_end e h = let q : to - from - 1 ≡ to - (from + 1) = omega arith in rw (e, q) h
-
-  pub decimal_by_end : (d : ℕ) → ks ≡ value_classes (s_ab (to - from - (d + 2)) d) → from + (d + 2) ≤ to
-      → r ≡ bad_place (value_classes (s_ab (to - (d + 1) - (from + 1)) (to - (to - (d + 1) + 1)))) b from → r ≡ bad_place ks b from
-  decimal_by_end d e l h =
-      let q : to - (d + 1) - (from + 1) ≡ to - from - (d + 2) = omega arith in
-      let m : to - (to - (d + 1) + 1) ≡ d = omega arith in
-      h ∙ rw (e, q, m)
+  pub one-bad : fits k (get_or b from 0) ≡ false → Err from ≡ checked to (bad_place (k ∷ []) b from)
+  one-bad h = here_bad k [] b from to h (omega arith)

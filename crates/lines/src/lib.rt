@@ -1,375 +1,208 @@
 // The check of header lines against the layout of document 01, "Header text": the first byte that is not as laid out.
-// A header whose bytes all lie between the two ends of what may stand at their places, none of them barred there, is as laid out. Any other
-// goes row by row through a constant table of line start, kind and width, and span by span: the literal bytes from the last value on, and the value. A
-// spare's value is its blanks.
+// A header whose bytes all lie between the lowest and the highest that may stand at their places, none of them barred there, is as laid out. Any other goes row
+// by row through a constant table of line start, kind and width, and span by span: the literal bytes from the last value on, and the value. A spare's value is
+// its blanks.
 #![tactic(auto)]
 
 mod tables;
 
-ghost use Rattle.std.specs.Prelude.{◌≡◌, ◌+◌, ◌*◌, ◌-◌, ◌≤◌, ◌<◌, min, max, true, not, T, eqb, length};
+ghost use Rattle.std.specs.Prelude.{◌≡◌, ◌+◌, ◌*◌, ◌-◌, ◌≤◌, ◌<◌, not, T, length};
 ghost use Rattle.layout.specs.Bytes.{bytes, part};
-ghost use Rattle.layout.specs.Answer.{need};
 ghost use Rattle.layout.specs.Answers.{verdict_is};
-ghost use Rattle.layout.specs.Lines.{size_of_mph, size_of_dsd, mph, dsd};
+ghost use Rattle.layout.specs.Lines.{size_of_mph, size_of_dsd, mph, spare_dsd};
 ghost use Rattle.layout.specs.Search.{first, some, laid_out};
-ghost use Rattle.layout.specs.Text.{layout, sign, among, fits, spare, s, s_ab, literal, value_classes, line_classes};
-ghost use Rattle.lines.specs.Ranges.{may_stand, misplaced, DsdRanges};
-ghost use Rattle.lines.specs.Table.{bad_place, value_laid, width_fits, row_laid, row_fits, row_of, table_fits, bad_by_table, bad_in_dsd, rule8_from};
+ghost use Rattle.layout.specs.Text.{layout, sign, among, fits, s, s_ab, literal, value_classes};
+ghost use Rattle.lines.specs.Ranges.{may_stand, misplaced};
+ghost use Rattle.lines.specs.Table.{bad_place, checked, refused_at, value_laid, width_fits, end_of, row_laid, row_fits, table_fits, bad_by_table, bad_in_dsd, rule8_from};
 
 use dsd::Entry;
-use layout::Verdict;
+use layout::{Refusal, refuse};
+use tables::{Kind, Ranges, Row};
 use values::MainHeader;
 
-// One row of a table: its value's first byte, kind and width.
-#[derive(Clone, Copy)]
-struct Row {
-    value: usize,
-    kind: u8,
-    width: usize,
-}
-
+#[tactic(auto, unfolding(layout::specs::Text::fits))]
 fn is_sign(x: u8) -> bool
     ensures { result ≡ fits sign x }
 {
-    if x == b'+' {
-        return true;
-    }
-    x == b'-'
+    matches!(x, b'+' | b'-')
 }
 
+#[tactic(auto, unfolding(layout::specs::Text::fits))]
 fn is_flag(x: u8) -> bool
     ensures { result ≡ fits (among (bytes "01")) x }
 {
-    if x == b'0' {
-        return true;
-    }
-    x == b'1'
+    matches!(x, b'0' | b'1')
 }
 
+#[tactic(auto, unfolding(layout::specs::Text::fits))]
 fn is_type(x: u8) -> bool
     ensures { result ≡ fits (among (bytes "MAGR")) x }
 {
-    if x == b'M' {
-        return true;
-    }
-    if x == b'A' {
-        return true;
-    }
-    if x == b'G' {
-        return true;
-    }
-    x == b'R'
+    matches!(x, b'M' | b'A' | b'G' | b'R')
 }
 
-// The first byte of a span that is not as laid out, or its end.
-fn literal_span(p: &[u8], template: &[u8], from: usize, to: usize) -> usize
+// A search found this place, which is a bad byte's unless it is the end.
+fn end_or_bad(place: usize, end: usize) -> Result<(), usize>
+    ensures { result ≡ checked end place }
+{
+    if place != end {
+        return Err(place);
+    }
+    Ok(())
+}
+
+// A check answers the place of the first byte that is not as laid out, where there is one. This one is of literal bytes.
+fn literal_span(p: &[u8], template: &[u8], from: usize, to: usize) -> Result<(), usize>
     requires { (from ≤ to) × (to ≤ length template.now) × (to ≤ length p.now) }
-    ensures { result ≡ bad_place (literal (part template.now from (to - from))) p.now from }
+    ensures { result ≡ checked to (bad_place (literal (part template.now from (to - from))) p.now from) }
 {
-    let mut i = from;
-    while i < to {
+    for i in from..to {
         if p[i] != template[i] {
-            return i;
+            return Err(i);
         }
-        i += 1;
     }
-    to
+    Ok(())
 }
 
-// A spare line: so many blanks and byte 10.
-fn spare_check(p: &[u8], from: usize, blanks: usize) -> usize
-    requires { from + blanks < length p.now }
-    ensures { result ≡ bad_place (line_classes (spare blanks)) p.now from }
+// A spare DSD: blanks and byte 10.
+fn spare_check(p: &[u8]) -> Result<(), usize>
+    requires { size_of_dsd ≤ length p.now }
+    ensures { result ≡ checked size_of_dsd (bad_place (layout spare_dsd) p.now 0) }
 {
-    let end = from + blanks;
-    let bad = text::first_not_blank(p, from, end);
-    if bad != end {
-        return bad;
-    }
+    let end = Entry::SIZE - 1;
+    end_or_bad(text::first_not_blank(p, 0, end), end)?;
     if p[end] != 10 {
-        return end;
+        return Err(end);
     }
-    end + 1
+    Ok(())
 }
 
 // A sign and digits.
-fn whole_check(p: &[u8], from: usize, to: usize) -> usize
+fn whole_check(p: &[u8], from: usize, to: usize) -> Result<(), usize>
     requires { (from < to) × (to ≤ length p.now) }
-    ensures { result ≡ bad_place (value_classes (s (to - (from + 1)))) p.now from }
+    ensures { result ≡ checked to (bad_place (value_classes (s (to - (from + 1)))) p.now from) }
 {
     if !is_sign(p[from]) {
-        return from;
+        return Err(from);
     }
-    text::first_not_digit(p, from + 1, to)
+    end_or_bad(text::first_not_digit(p, from + 1, to), to)
 }
 
 // A sign, digits, a point and digits.
-fn decimal_check(p: &[u8], from: usize, point: usize, to: usize) -> usize
+fn decimal_check(p: &[u8], from: usize, point: usize, to: usize) -> Result<(), usize>
     requires { (from < point) × (point < to) × (to ≤ length p.now) }
-    ensures { result ≡ bad_place (value_classes (s_ab (point - (from + 1)) (to - (point + 1)))) p.now from }
+    ensures { result ≡ checked to (bad_place (value_classes (s_ab (point - (from + 1)) (to - (point + 1)))) p.now from) }
 {
-    let bad = whole_check(p, from, point);
-    if bad != point {
-        return bad;
-    }
+    whole_check(p, from, point)?;
     if p[point] != b'.' {
-        return point;
+        return Err(point);
     }
-    text::first_not_digit(p, point + 1, to)
+    end_or_bad(text::first_not_digit(p, point + 1, to), to)
 }
 
-fn value_check(p: &[u8], from: usize, kind: u8, to: usize) -> usize
+// A value of this kind.
+#[tactic(auto, unfolding(crate::specs::Table::width_fits, crate::specs::Table::value_laid))]
+fn value_check(p: &[u8], from: usize, kind: Kind, to: usize) -> Result<(), usize>
     requires { (from ≤ to) × (to ≤ length p.now) × T (width_fits kind (to - from)) }
-    ensures { result ≡ bad_place (value_laid kind (to - from)) p.now from }
+    ensures { result ≡ checked to (bad_place (value_laid kind (to - from)) p.now from) }
 {
-    if kind == tables::TEXT {
-        return text::first_not_plain(p, from, to);
+    match kind {
+        Kind::Text => end_or_bad(text::first_not_plain(p, from, to), to),
+        Kind::Spare => end_or_bad(text::first_not_blank(p, from, to), to),
+        Kind::Flag => if is_flag(p[from]) { Ok(()) } else { Err(from) },
+        Kind::SetType => if is_type(p[from]) { Ok(()) } else { Err(from) },
+        Kind::Whole => whole_check(p, from, to),
+        Kind::Thousandths => decimal_check(p, from, to - 4, to),
+        Kind::Millionths => decimal_check(p, from, to - 7, to),
     }
-    if kind == tables::SPARE {
-        return text::first_not_blank(p, from, to);
-    }
-    if kind == tables::FLAG {
-        if is_flag(p[from]) {
-            return to;
-        }
-        return from;
-    }
-    if kind == tables::TYPE {
-        if is_type(p[from]) {
-            return to;
-        }
-        return from;
-    }
-    if kind == tables::WHOLE {
-        return whole_check(p, from, to);
-    }
-    if kind == tables::THOUSANDTHS {
-        return decimal_check(p, from, to - 4, to);
-    }
-    decimal_check(p, from, to - 7, to)
 }
 
 // One row: the literal bytes from the last value on, and the value.
-fn row_check(p: &[u8], template: &[u8], from: usize, row: Row) -> usize
-    requires { T (row_fits (length template.now) from row) × (length template.now ≤ length p.now) }
-    ensures { result ≡ bad_place (row_laid template.now from row) p.now from }
+fn row_check(p: &[u8], template: &[u8], from: usize, row: &Row) -> Result<(), usize>
+    requires { T (row_fits (length template.now) from row.now) × (length template.now ≤ length p.now) }
+    ensures { result ≡ checked (end_of row.now) (bad_place (row_laid template.now from row.now) p.now from) }
 {
-    let value = row.value;
-    let bad = literal_span(p, template, from, value);
-    if bad != value {
-        return bad;
-    }
+    let value = row.start + row.key;
+    literal_span(p, template, from, value)?;
     value_check(p, value, row.kind, value + row.width)
 }
 
-fn wide8(x: u8) -> usize
-    ensures { (result ≡ x) × (result < 256) }
-{
-    x as usize
-}
-
-fn wide16(x: u16) -> usize
-    ensures { (result ≡ x) × (result < 65536) }
-{
-    x as usize
-}
-
-fn row_at(starts: &[u16], keys: &[u8], kinds: &[u8], widths: &[u8], i: usize) -> Row
-    requires { (i < length starts.now) × (i < length keys.now) × (i < length kinds.now) × (i < length widths.now) }
-    ensures { result ≡ row_of starts.now keys.now kinds.now widths.now i }
-{
-    Row {
-        value: wide16(starts[i]) + wide8(keys[i]),
-        kind: kinds[i],
-        width: wide8(widths[i]),
-    }
-}
-
 // The lines of a table, in the header `p`: row by row, and the literal bytes behind the last value.
-fn lines_check(
-    p: &[u8],
-    template: &[u8],
-    starts: &[u16],
-    keys: &[u8],
-    kinds: &[u8],
-    widths: &[u8],
-) -> usize
-    requires { T (table_fits template.now starts.now keys.now kinds.now widths.now) × (length template.now ≤ length p.now) }
-    ensures { result ≡ bad_by_table template.now starts.now keys.now kinds.now widths.now p.now }
+#[inline(never)] // only bad headers get here, and within `dsds_check` it takes registers from the loop: 128 spares take 1.25 times as long
+fn lines_check(p: &[u8], template: &[u8], rows: &[Row]) -> Result<(), usize>
+    requires { T (table_fits template.now rows.now) × (length template.now ≤ length p.now) }
+    ensures { result ≡ checked (length template.now) (bad_by_table template.now rows.now p.now) }
 {
     let mut from = 0;
-    let mut i = 0;
-    while i < kinds.len() {
-        let row = row_at(starts, keys, kinds, widths, i);
-        let end = row.value + row.width;
-        let bad = row_check(p, template, from, row);
-        if bad != end {
-            return bad;
-        }
-        from = end;
-        i += 1;
+    for row in rows {
+        row_check(p, template, from, row)?;
+        from = row.start + row.key + row.width;
     }
     literal_span(p, template, from, template.len())
 }
 
-fn lower(one: u8, other: u8) -> u8
-    ensures { result ≡ min one other }
+#[tactic(auto, unfolding(crate::specs::Ranges::may_stand))]
+fn may_stand(x: u8, low: u8, high: u8, barred: u8) -> bool
+    ensures { result ≡ may_stand low high barred x }
 {
-    if one < other { one } else { other }
+    ((low <= x) & (x <= high)) & (x != barred)
 }
 
-fn higher(one: u8, other: u8) -> u8
-    ensures { result ≡ max one other }
-{
-    if one < other { other } else { one }
-}
-
-fn may_stand(x: u8, one: u8, other: u8, barred: u8) -> bool
-    ensures { result ≡ may_stand one other barred x }
-{
-    ((lower(one, other) <= x) & (x <= higher(one, other))) & (x != barred)
-}
-
-// The places `from..to` of a header that begins at `at` have bytes that may stand there. They are tested as a whole, without an exit, so that they are tested
-// side by side.
-fn laid_in(
-    p: &[u8],
-    at: usize,
-    ones: &[u8],
-    others: &[u8],
-    barred: &[u8],
-    from: usize,
-    to: usize,
-) -> bool
-    requires { (from ≤ to) × (at + to ≤ length p.now) × (to ≤ length ones.now) × (to ≤ length others.now) × (to ≤ length barred.now) }
-    ensures { result ≡ not (some (misplaced ones.now others.now barred.now p.now at) from (to - from)) }
+// The places `from..to` of a header have bytes that may stand there. They are tested as a whole, without an exit, so that they are tested side by side; by an
+// index, since it goes over four arrays at once.
+fn laid_in<const N: usize>(p: &[u8], ranges: &Ranges<N>, from: usize, to: usize) -> bool
+    requires { (from ≤ to) × (to ≤ N) × (N ≤ length p.now) }
+    ensures { result ≡ not (some (misplaced ranges.now.lows ranges.now.highs ranges.now.barred p.now) from (to - from)) }
 {
     let mut all = true;
-    let mut i = from;
-    while i < to {
-        all = all & may_stand(p[at + i], ones[i], others[i], barred[i]);
-        i += 1;
+    for i in from..to {
+        all &= may_stand(p[i], ranges.lows[i], ranges.highs[i], ranges.barred[i]);
     }
     all
 }
 
-// The whole main header is as laid out. In parts, one after the other, each short enough that the compiler unrolls it and of whole blocks of 16 but for the
-// last: then it reads the tables from the program, and needs no copy of them.
-fn main_header_laid(p: &[u8]) -> bool
+// The place of the first byte of the main header that is not as laid out (rule 3). It is tested in parts, each short enough that the compiler unrolls it and
+// has the tables' bytes in the program: as one loop, `judge` of a main header alone takes 1.16 times as long.
+pub fn main_header_check(p: &[u8]) -> Result<(), usize>
     requires { size_of_mph ≤ length p.now }
-    ensures { result ≡ true → size_of_mph ≡ bad_place (layout mph) p.now 0 }
+    ensures { laid_out 3 128 0 (layout mph) p.now ≡ refused_at 3 128 result }
 {
-    let ones = tables::MPH_ONE_END;
-    let others = tables::MPH_OTHER_END;
-    let barred = tables::MPH_BARRED;
-    if !laid_in(p, 0, &ones, &others, &barred, 0, 256) {
-        return false;
+    if laid_in(p, &tables::MPH, 0, 256)
+        && laid_in(p, &tables::MPH, 256, 512)
+        && laid_in(p, &tables::MPH, 512, 768)
+        && laid_in(p, &tables::MPH, 768, 1024)
+        && laid_in(p, &tables::MPH, 1024, MainHeader::SIZE)
+    {
+        return Ok(());
     }
-    if !laid_in(p, 0, &ones, &others, &barred, 256, 512) {
-        return false;
-    }
-    if !laid_in(p, 0, &ones, &others, &barred, 512, 768) {
-        return false;
-    }
-    if !laid_in(p, 0, &ones, &others, &barred, 768, 1024) {
-        return false;
-    }
-    laid_in(p, 0, &ones, &others, &barred, 1024, MainHeader::SIZE)
+    lines_check(p, &tables::MPH.lows, &tables::MPH_ROWS)
 }
 
-// The first byte of the main header that is not as laid out, or its end, by the rows of its table.
-fn main_header_lines(p: &[u8]) -> usize
-    requires { size_of_mph ≤ length p.now }
-    ensures { result ≡ bad_place (layout mph) p.now 0 }
+// A DSD. One whose first byte is a blank is a spare. The type is tested by itself: M, A, G, R are no range.
+fn dsd_check(p: &[u8]) -> Result<(), usize>
+    requires { size_of_dsd ≤ length p.now }
+    ensures { result ≡ checked size_of_dsd (bad_in_dsd p.now 0) }
 {
-    lines_check(
-        p,
-        &tables::MPH_ONE_END,
-        &tables::MPH_STARTS,
-        &tables::MPH_KEYS,
-        &tables::MPH_KINDS,
-        &tables::MPH_WIDTHS,
-    )
+    if p[0] == b' ' {
+        return spare_check(p);
+    }
+    if is_type(p[tables::DSD_TYPE_AT]) && laid_in(p, &tables::DSD, 0, Entry::SIZE) {
+        return Ok(());
+    }
+    lines_check(p, &tables::DSD.lows, &tables::DSD_ROWS)
 }
 
-// The first byte of the main header that is not as laid out, or its end (rule 3).
-pub fn main_header_check(p: &[u8]) -> usize
-    requires { size_of_mph ≤ length p.now }
-    ensures { laid_out 3 128 0 (layout mph) p.now ≡ need (eqb result size_of_mph) 3 result 128 }
-{
-    if main_header_laid(p) {
-        return MainHeader::SIZE;
-    }
-    main_header_lines(p)
-}
-
-// The same of the DSD that begins at `at`, by the rows of its table.
-fn dsd_lines(p: &[u8], at: usize) -> usize
-    requires { at + size_of_dsd ≤ length p.now }
-    ensures { result ≡ bad_place (layout dsd) p.now at }
-{
-    let end = at + Entry::SIZE;
-    let bad = lines_check(
-        &p[at..end],
-        &tables::DSD_ONE_END,
-        &tables::DSD_STARTS,
-        &tables::DSD_KEYS,
-        &tables::DSD_KINDS,
-        &tables::DSD_WIDTHS,
-    );
-    at + bad
-}
-
-// The DSD that begins at `at` is as laid out, with the tables lent. In parts, as the main header; the type is tested by itself: M, A, G, R are no range.
-fn dsd_laid(p: &[u8], at: usize, ones: &[u8], others: &[u8], barred: &[u8]) -> bool
-    requires { (at + size_of_dsd ≤ length p.now) × DsdRanges ones.now others.now barred.now }
-    ensures { result ≡ true → at + size_of_dsd ≡ bad_place (layout dsd) p.now at }
-{
-    if !is_type(p[at + tables::DSD_TYPE_AT]) {
-        return false;
-    }
-    if !laid_in(p, at, ones, others, barred, 0, 128) {
-        return false;
-    }
-    if !laid_in(p, at, ones, others, barred, 128, 256) {
-        return false;
-    }
-    laid_in(p, at, ones, others, barred, 256, Entry::SIZE)
-}
-
-// The first byte of any DSD that is not as laid out, or its end. One whose first byte is a blank is a spare.
-fn dsd_check(p: &[u8], at: usize, ones: &[u8], others: &[u8], barred: &[u8]) -> usize
-    requires { (at + size_of_dsd ≤ length p.now) × DsdRanges ones.now others.now barred.now }
-    ensures { result ≡ bad_in_dsd p.now at }
-{
-    if p[at] == b' ' {
-        return spare_check(p, at, Entry::SIZE - 1);
-    }
-    if dsd_laid(p, at, ones, others, barred) {
-        return at + Entry::SIZE;
-    }
-    dsd_lines(p, at)
-}
-
-// Rule 8 of the `n` DSDs that begin at `from`. The tables are made once for all, and not where there is none.
-pub fn dsds_check(p: &[u8], from: usize, n: usize) -> Verdict
+// Rule 8 of the `n` DSDs that begin at `from`.
+#[inline(never)] // within a caller its loop has too few registers: 128 spares take 1.05 times as long
+pub fn dsds_check(p: &[u8], from: usize, n: usize) -> Result<(), Refusal>
     requires { from + size_of_dsd * n ≤ length p.now }
     ensures { verdict_is result ≡ first (rule8_from p.now from) 0 n }
 {
-    if n == 0 {
-        return Verdict::Accepted;
-    }
-    let ones = tables::DSD_ONE_END;
-    let others = tables::DSD_OTHER_END;
-    let barred = tables::DSD_BARRED;
-    let mut i = 0;
-    while i < n {
+    for i in 0..n {
         let at = from + Entry::SIZE * i;
-        let bad = dsd_check(p, at, &ones, &others, &barred);
-        if bad != at + Entry::SIZE {
-            return Verdict::refuse(8, bad as u64, i);
+        if let Err(bad) = dsd_check(&p[at..at + Entry::SIZE]) {
+            return refuse(8, (at + bad) as u64, i);
         }
-        i += 1;
     }
-    Verdict::Accepted
+    Ok(())
 }

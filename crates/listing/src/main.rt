@@ -9,7 +9,6 @@ ghost use Rattle.layout.specs.Listing.{listing};
 use std::io;
 use std::io::Write;
 use std::rt::Files;
-use streams::Arrived;
 
 // Writes the listing of a product, and answers whether it got where it goes.
 fn write_listing<W: Write>(files: &impl Files, output: &mut W, product: &[u8]) -> io::Result<()>
@@ -23,10 +22,9 @@ fn write_listing<W: Write>(files: &impl Files, output: &mut W, product: &[u8]) -
 
 fn main(rt: HostRuntime) -> io::Result<()> {
     let mut input = [0u8; 65537];
-    let arrived = streams::read_whole(&mut rt.stdin(), &mut input);
-    let length = match arrived {
-        Arrived::Whole(length) => length,
-        Arrived::Failed(error) => return streams::say_failed(&rt, "listing: standard input", error),
+    let length = match streams::read_whole(&mut rt.stdin(), &mut input) {
+        Ok(length) => length,
+        Err(error) => return streams::say_failed(&rt, "listing: standard input", error),
     };
     match write_listing(&rt, &mut rt.stdout(), &input[..length]) {
         Ok(()) => Ok(()),

@@ -1,10 +1,11 @@
 -- The listing (document 01, "The listing") as the layout's definition has it, but from a verdict, a length and a directory's arrays.
 -- Assumes nothing.
-use Rattle.std.specs.Prelude.{ℕ, List, [], ◌∷◌, ◌++◌, map, pos, get_or}
+use Rattle.std.specs.Prelude.{ℕ, List, [], ◌∷◌, ◌++◌, map, pos, get_or, Result, Ok, Err}
 use Rattle.layout.specs.Bytes.{bytes}
 use Rattle.layout.specs.Answer.{Answer, accepted, refused}
 use Rattle.layout.specs.Search.{upto, join}
 use Rattle.layout.specs.Listing.{decimal, line_of}
+use Rattle.layout.specs.declared.Refusal.{Refusal}
 use Rattle.layout.specs.declared.Directory.{Directory}
 use Rattle.listing_text.specs.declared.Listed.{Listed}
 use Rattle.listing_text.specs.EntryLine.{entry_text}
@@ -38,6 +39,11 @@ accepted_text n d = line_of (bytes "size" ∷ decimal n ∷ []) ++ (entry_texts 
 unfoldable pub listing_of : Answer → ℕ → Directory → List ℕ
 listing_of accepted n d = accepted_text n d
 listing_of (refused number p e) n d = refusal_text number p e
+
+-- of a directory or of a refusal
+unfoldable pub answer_text : Result Directory Refusal → ℕ → List ℕ
+answer_text (Ok d) n = accepted_text n d
+answer_text (Err r) n = refusal_text r.number r.place r.entry
 
 -- an input of more bytes than are read
 unfoldable pub longer_text : List ℕ

@@ -1,17 +1,17 @@
 // The listing (document 01, "The listing"): every byte that the listing program writes.
 #![tactic(auto)]
 
-ghost use Rattle.std.specs.Prelude.{◌≡◌, ◌∷◌, ◌++◌, [], ◌+◌, ◌*◌, ◌≤◌, ◌<◌, length};
+ghost use Rattle.std.specs.Prelude.{◌≡◌, ◌∷◌, ◌++◌, [], ◌+◌, ◌*◌, ◌≤◌, ◌<◌, length, IfOk};
 ghost use Rattle.layout.specs.Listing.{listing, trimmed, line_of};
-ghost use Rattle.layout.specs.Answers.{verdict_is, name_at};
+ghost use Rattle.layout.specs.Answers.{name_at};
 ghost use Rattle.writing.specs.Put.{Put, Written};
 ghost use Rattle.listing_text.specs.EntryLine.{entry_numbers, entry_words, entry_text};
-ghost use Rattle.listing_text.specs.Listing.{entry_texts, refusal_text, accepted_text, listing_of, longer_text};
+ghost use Rattle.listing_text.specs.Listing.{listed_of, entry_texts, refusal_text, accepted_text, answer_text, longer_text};
 
-use layout::{Directory, Refusal, Verdict};
+use layout::{Directory, Refusal};
 use writing::{name_length, put_byte, put_number, put_signed, put_text};
 
-// What a line says of one entry, but for its name.
+// What a line says of one entry, but for its name. The type is the directory's byte.
 #[derive(Clone, Copy)]
 struct Listed {
     number: usize,
@@ -21,6 +21,24 @@ struct Listed {
     count: u64,
     record_size: i64,
     rank: u64,
+}
+
+impl Listed {
+    // What is listed of an entry.
+    fn of(directory: &Directory, number: usize) -> Listed
+        requires { number < 128 }
+        ensures { result ≡ listed_of directory.now number }
+    {
+        Listed {
+            number,
+            ds_type: directory.types[number],
+            offset: directory.offsets[number],
+            size: directory.sizes[number],
+            count: directory.counts[number],
+            record_size: directory.record_sizes[number],
+            rank: directory.ranks[number],
+        }
+    }
 }
 
 // The name of an entry without its trailing blanks, and a blank.
@@ -77,19 +95,8 @@ fn put_entries(out: &mut [u8], at: usize, directory: Directory) -> usize
     ensures { Put 20992 (entry_texts directory directory.entries) out.old out.new at result }
 {
     let mut next = at;
-    let mut i: usize = 0;
-    while i < directory.entries {
-        let entry = Listed {
-            number: i,
-            ds_type: directory.types[i],
-            offset: directory.offsets[i],
-            size: directory.sizes[i],
-            count: directory.counts[i],
-            record_size: directory.record_sizes[i],
-            rank: directory.ranks[i],
-        };
-        next = put_entry(out, next, &directory.names, entry);
-        i += 1;
+    for i in 0..directory.entries {
+        next = put_entry(out, next, &directory.names, Listed::of(&directory, i));
     }
     next
 }
@@ -115,13 +122,13 @@ fn put_accepted(out: &mut [u8], at: usize, size: usize, directory: Directory) ->
 }
 
 // The listing of a product of so many bytes; of a refused one, its line alone. Answers how many bytes it is.
-fn write_listing(verdict: Verdict, directory: Directory, size: usize, out: &mut [u8]) -> usize
-    requires { (32768 ≤ length out.old) × (directory.entries ≤ 128) }
-    ensures { Written 32768 (listing_of (verdict_is verdict) size directory) out.old out.new result }
+fn write_listing(answer: Result<Directory, Refusal>, size: usize, out: &mut [u8]) -> usize
+    requires { (32768 ≤ length out.old) × IfOk answer (λ d. d.entries ≤ 128) }
+    ensures { Written 32768 (answer_text answer size) out.old out.new result }
 {
-    match verdict {
-        Verdict::Accepted => put_accepted(out, 0, size, directory),
-        Verdict::Refused(refusal) => put_refusal(out, 0, refusal),
+    match answer {
+        Ok(directory) => put_accepted(out, 0, size, directory),
+        Err(refusal) => put_refusal(out, 0, refusal),
     }
 }
 
@@ -141,8 +148,5 @@ pub fn list_product(p: &[u8], out: &mut [u8]) -> usize
     if 65536 < p.len() {
         return write_longer(out);
     }
-    let answer = product::open_directory(p);
-    let verdict = answer.verdict;
-    let directory = answer.directory;
-    write_listing(verdict, directory, p.len(), out)
+    write_listing(product::open_directory(p), p.len(), out)
 }

@@ -1,18 +1,16 @@
--- Numbers to the base 256 over the count of digits, the half at which their sign turns, and -1 - x.
+-- Numbers to the base 256 over the count of digits, and the half at which their sign turns.
 -- Assumes nothing.
 use mathlib.Core.Path.{◌≡◌, refl, sym, ap, ◌∙◌}
 use mathlib.Core.List.{List}
 use Prim.Native.Nat.{ℕ, zero, suc, ◌+◌, ◌-◌, ◌*◌, ◌%◌, ◌^◌, ◌≤◌, ◌<◌}
-use native.Mathlib.Nat.{lt_of_lt_of_le, le_of_suc-le-suc, pow-le-pow_right, pow-suc, pow-succ', zero-add, one-mul}
+use native.Mathlib.Nat.{lt_of_lt_of_le, le_of_suc-le-suc, pow-le-pow_right, pow-suc, pow-succ', one-mul}
 use native.Mathlib.Numerals.{add-one}
 use native.Mathlib.Omega.{arith}
 use lib.Dec.{lit<, lit≤}
 use lib.Arith.{digits_lt}
 use lib.Pow.{pow-add, pow_mono, shl_exact}
-use lib.IntN.{ℤ, pos, negsuc, ◌-ℤ◌}
-use mir.Syntax.{w64}
-use mir.Val.{to_z, SFits}
-use mir.Facts.{to_z_pos}
+use lib.ListN.{get_or, take, drop}
+use lib.Seq.{get_or-take, get_or-drop}
 use Rattle.layout.specs.Bytes.{byte_at, unsigned_at}
 
 -- one more digit
@@ -22,6 +20,13 @@ next-lt v b i h k = rw (add-one, pow-suc) (digits_lt h k)
 pub next-is : (p : List ℕ) (at i v : ℕ) → v ≡ unsigned_at p at i → v * 256 + byte_at p (at + i) ≡ unsigned_at p at (i + 1)
 unfolding unsigned_at
 next-is p at i v h = rw (add-one i, h)
+
+-- a byte of the bytes lent from a place on
+pub lent_byte : (p : List ℕ) (at width i : ℕ) → i < width → get_or (take (at + width - at) (drop at p)) i 0 ≡ byte_at p (at + i)
+unfolding byte_at
+lent_byte p at width i h =
+    let e : at + width - at ≡ width = omega arith in
+    rw e (get_or-take width (drop at p) i 0 h ∙ get_or-drop at p i 0)
 
 -- fewer than 8 digits leave room for one more in 64 bits
 pub room : (v i : ℕ) → v < 256 ^ i → i < 8 → v < 2 ^ 56
@@ -46,16 +51,3 @@ half_le w h = let l : 8 * w - 1 ≤ 31 = omega arith in pow_mono l
 -- the machine's `1 << (8 * w - 1)`
 pub half_is : (w : ℕ) → w ≤ 4 → (1 * 2 ^ (8 * w - 1)) % 2 ^ 64 ≡ 2 ^ (8 * w - 1)
 half_is w h = shl_exact {a = 1} 1 (8 * w - 1) 64 (lit< tt) (omega arith) ∙ one-mul (2 ^ (8 * w - 1))
-
--- ---- -1 - x
-
-below_zero : (x : ℕ) → negsuc 0 -ℤ pos x ≡ negsuc x
-below_zero zero = refl
-below_zero (suc x) = ap (λ (y : ℕ). negsuc (suc y)) (zero-add x)
-
--- what the machine makes of it
-pub less_one : (x : ℕ) → x < 2 ^ 63 → negsuc 0 -ℤ to_z w64 x ≡ negsuc x
-less_one x h = ap (λ (z : ℤ). negsuc 0 -ℤ z) (to_z_pos w64 h) ∙ below_zero x
-
-pub less_one_fits : (x : ℕ) → x < 2 ^ 63 → SFits w64 (negsuc 0 -ℤ to_z w64 x)
-less_one_fits x h = rw (less_one x h) (record { sfits = h })

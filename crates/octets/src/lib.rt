@@ -7,29 +7,19 @@ ghost use Rattle.std.specs.Float.{binary32, binary64};
 ghost use Rattle.std.specs.Float.Ieee.{of_bits};
 ghost use Rattle.layout.specs.Bytes.{unsigned_at, twos_complement, signed_at};
 
-// A number with one more byte behind it.
-fn with_byte(v: u64, x: u8) -> u64
-    requires { v < 2 ^ 56 }
-    ensures { (result ≡ v * 256 + x) × (x < 256) }
-{
-    v * 256 + x as u64
-}
-
 // The number that `width` bytes from a place on are, without a sign.
 pub fn unsigned(p: &[u8], at: usize, width: usize) -> u64
     requires { (width ≤ 8) × (at + width ≤ length p.now) }
     ensures { (result ≡ unsigned_at p.now at width) × (result < 256 ^ width) }
 {
-    let mut v: u64 = 0;
-    let mut i = 0;
-    while i < width {
-        v = with_byte(v, p[at + i]);
-        i += 1;
+    let mut v = 0;
+    for &byte in &p[at..at + width] {
+        v = v * 256 + u64::from(byte);
     }
     v
 }
 
-// A number below twice `half` as two's complement. The half that is negative goes through -1 - x, since -x of the least number does not fit.
+// A number below twice `half` as two's complement. `cast_signed` is no plainer: its width is its type's, and here it is the caller's.
 fn twos_complement(v: u64, half: u64) -> i64
     requires { (half ≤ 2 ^ 31) × (v < 2 * half) }
     ensures { (result ≡ twos_complement half v) × (mag result < half) }
@@ -37,7 +27,7 @@ fn twos_complement(v: u64, half: u64) -> i64
     if v < half {
         v as i64
     } else {
-        -1 - ((2 * half - 1 - v) as i64)
+        v as i64 - (2 * half) as i64
     }
 }
 

@@ -1,7 +1,7 @@
 -- The rules in the order in which the code checks them, and what opening answers at each.
 -- Assumes nothing.
+use Rattle.std.specs.Prelude.{Result, Ok, Err}
 use Prim.Native.Nat.{ℕ, ◌*◌, ◌-◌, ◌≤◌, min}
-use mathlib.Core.Bool.{false}
 use mathlib.Core.List.{List}
 use mathlib.Core.Path.{◌≡◌, refl, sym, ap, ◌∙◌, subst}
 use native.Mathlib.Omega.{arith}
@@ -12,10 +12,8 @@ use Rattle.layout.specs.Entries.{Entry, headers_end, entries_from, directory}
 use Rattle.layout.specs.States.{states_of, tally_of}
 use Rattle.layout.specs.Rules.{rules1to6, header_rules, state_rules, verdict_from, verdict}
 use Rattle.layout.specs.declared.Refusal.{Refusal}
-use Rattle.layout.specs.declared.Verdict.{Verdict}
-use Rattle.layout.specs.declared.Verdict.TheVariants.{Accepted, Refused}
 use Rattle.layout.proofs.Laws.{accepted≢refused, or_else_accepts, or_else_assoc}
-use Rattle.layout.proofs.Replies.{told-refused, told-accepted}
+use Rattle.layout.proofs.Replies.{told-accepted, handed-verdict}
 use Rattle.layout.proofs.Sound.{headed}
 use Rattle.header.specs.Checks.{HeaderChecked}
 use Rattle.header.specs.declared.HeaderCheck.{HeaderCheck}
@@ -25,43 +23,47 @@ use Rattle.directory.specs.declared.Reading.{Reading}
 use Rattle.directory.specs.declared.Sets.{Sets}
 use Rattle.directory.proofs.Rules.{dsds_of, spares_by_first, rules_split, the_directory, numbers-read, places_are}
 use Rattle.states.specs.Laid.{Fitting, Laid, Every}
-use Rattle.states.specs.Roles.{has_variable}
-use Rattle.states.proofs.Fits.{fitting, laid, no_variable}
-use Rattle.opening.specs.Opening.{longest_headers, front_rules, set_rules, Fronted, FrontChecked, SetsRead, HeadersChecked, closed, Opened}
+use Rattle.states.proofs.Fits.{fitting, laid}
+use Rattle.opening.specs.Opening.{longest_headers, front_rules, set_rules, Fronted, FrontChecked, SetsRead, HeadersChecked, Opens, Opened, OpenedWhole}
 use Rattle.opening.specs.declared.Opening.{Opening}
 
 -- ---- rules 1 to 8
 
-module _ (b : List ℕ) (n : ℕ) (header : HeaderCheck) (checked : HeaderChecked b n header) where
-  stays : {m p e : ℕ} → rules1to6 b n ≡ refused m p e → front_rules b n ≡ refused m p e
+module _ (b : List ℕ) (n : ℕ) where
+  pub stays_front : (f : Refusal) (r : Result HeaderCheck Refusal) → r ≡ Err f → refused f.number f.place f.entry ≡ front_rules b n → FrontChecked b n r
+  unfolding verdict_is
+  stays_front f r e h = rw e (record { judged = h; good = λ x q. cc })
+
+  pub six_refuse : (f : Refusal) → refused f.number f.place f.entry ≡ rules1to6 b n → refused f.number f.place f.entry ≡ front_rules b n
   unfolding front_rules
-  stays q = rw q
+  six_refuse f h = rw (← h)
 
-  pub header_refused : (r : Refusal) → header.verdict ≡ Refused r → FrontChecked b n header
-  header_refused r h =
-      let q = told-refused header.verdict r (rules1to6 b n) h checked.verdict-is in
-      let all : front_rules b n ≡ refused r.number r.place r.entry = stays q in
-      record { judged = checked.verdict-is ∙ q ∙ sym all; good = λ e. absurd (accepted≢refused (sym e ∙ all)) }
-
-  module _ (good : header.verdict ≡ Accepted) where
+  module _ (header : HeaderCheck) (checked : HeaderChecked b n (Ok header)) where
     six : rules1to6 b n ≡ accepted
-    six = told-accepted header.verdict (rules1to6 b n) good checked.verdict-is
+    unfolding verdict_is
+    six = sym checked.verdict-is
 
-    pub headers : min n longest_headers ≤ length b → Headers b header.headers_end header.entries
-    headers enough =
-        let fit = checked.headers six in
-        record {
-          ends = fit.end_is;
-          all = fit.entries-are;
-          most = fit.entries-most;
-          room = fit.dsds-fit;
-          inside = omega (arith, fit.inside, fit.end_most);
-        }
-
-    pub text_checked : min n longest_headers ≤ length b → (v : Verdict) → verdict_is v ≡ text_rules b n
-        → FrontChecked b n (record { verdict = v; headers_end = header.headers_end; entries = header.entries })
+    pub text_refuse : (f : Refusal) → refused f.number f.place f.entry ≡ text_rules b n → refused f.number f.place f.entry ≡ front_rules b n
     unfolding front_rules
-    text_checked enough v h = record { judged = h ∙ sym (rw six); good = λ e. record { rules = e; headers = headers enough } }
+    text_refuse f h = h ∙ sym (rw six)
+
+    module _ (enough : min n longest_headers ≤ length b) where
+      pub headers : Headers b header.headers_end header.entries
+      headers =
+          let fit = checked.headers header refl in
+          record {
+            ends = fit.end_is;
+            all = fit.entries-are;
+            most = fit.entries-most;
+            room = fit.dsds-fit;
+            inside = omega (arith, fit.inside, fit.end_most);
+          }
+
+      pub front_good : accepted ≡ text_rules b n → FrontChecked b n (Ok header)
+      unfolding verdict_is front_rules
+      front_good h =
+          let all : front_rules b n ≡ accepted = rw (six, ← h) in
+          record { judged = sym all; good = λ x q. let e : header ≡ x = cc in subst (λ (y : HeaderCheck). Fronted b n y) e (record { rules = all; headers = headers }) }
 
 text : (b : List ℕ) (n : ℕ) (front : HeaderCheck) → Fronted b n front → text_rules b n ≡ accepted
 unfolding front_rules
@@ -70,17 +72,15 @@ text b n front fronted = ((or_else_accepts (rules1to6 b n) (text_rules b n)).0 f
 -- ---- rules 9 to 14
 
 module _ (b : List ℕ) (n : ℕ) (front : HeaderCheck) (fronted : Fronted b n front) (reading : Reading) (offsets sizes : List ℕ) (sets : SetsRead (directory b) reading offsets sizes) where
-  pub numbers-refused : (r : Refusal) (v : Verdict) → v ≡ Refused r → verdict_is v ≡ number_rules b n → verdict_is v ≡ set_rules b n
+  pub numbers-refused : (f : Refusal) → refused f.number f.place f.entry ≡ number_rules b n → refused f.number f.place f.entry ≡ set_rules b n
   unfolding set_rules
-  numbers-refused r v h t = t ∙ rw (told-refused v r (number_rules b n) h t)
+  numbers-refused f h = rw (← h)
 
-  pub places_last : (u : Verdict) → u ≡ Accepted → verdict_is u ≡ number_rules b n
-      → (v : Verdict) → Placed offsets sizes front.entries front.headers_end n v → verdict_is v ≡ set_rules b n
+  pub places_last : accepted ≡ number_rules b n → (v : Result (Unit {0}) Refusal) → Placed offsets sizes front.entries front.headers_end n v → verdict_is v ≡ set_rules b n
   unfolding set_rules
-  places_last u good t v placed =
-      let numbers = told-accepted u (number_rules b n) good t in
-      places_are b front.headers_end front.entries fronted.headers n (text b n front fronted) reading sets.read.counted numbers offsets sizes sets.read.held sets.extents v placed
-      ∙ sym (rw numbers)
+  places_last numbers v placed =
+      places_are b front.headers_end front.entries fronted.headers n (text b n front fronted) reading sets.read.counted (sym numbers) offsets sizes sets.read.held sets.extents v placed
+      ∙ rw (← numbers)
 
 -- ---- rules 1 to 14
 
@@ -89,105 +89,120 @@ module _ (b : List ℕ) (n : ℕ) where
   unfolding header_rules front_rules set_rules
   headers_split = rw (rules_split b n) (sym (simp or_else_assoc))
 
-  module _ (front : HeaderCheck) (checked : FrontChecked b n front) where
-    -- the arrays are what they may be
-    pub front_refused : (sets : Sets) (r : Refusal) → front.verdict ≡ Refused r → HeadersChecked b n front sets
-    front_refused sets r h =
-        let q = told-refused front.verdict r (front_rules b n) h checked.judged in
-        let all : header_rules b n ≡ refused r.number r.place r.entry = headers_split ∙ rw q in
-        record {
-          judged = checked.judged ∙ q ∙ sym all;
-          headers = λ e. absurd (accepted≢refused (sym e ∙ all));
-          held = λ e. absurd (accepted≢refused (sym e ∙ all));
-        }
+  -- the numbers are what they may be
+  pub stays_refused : (sets : Sets) (f : Refusal) (r : Result HeaderCheck Refusal) → r ≡ Err f → refused f.number f.place f.entry ≡ header_rules b n → HeadersChecked b n r sets
+  unfolding verdict_is
+  stays_refused sets f r e h = rw e (record { judged = h; headers = λ x q. cc; held = λ q. absurd (accepted≢refused (sym q ∙ sym h)) })
 
-    module _ (good : front.verdict ≡ Accepted) where
-      pub fronted : Fronted b n front
-      fronted = checked.good (told-accepted front.verdict (front_rules b n) good checked.judged)
+  pub front_refuse : (f : Refusal) → refused f.number f.place f.entry ≡ front_rules b n → refused f.number f.place f.entry ≡ header_rules b n
+  front_refuse f h = sym (headers_split ∙ rw (← h))
 
-      -- what a reading of the numbers asks of the DSDs
-      pub spares_told : SparesByFirst b (front.headers_end - 280 * front.entries) front.entries
-      spares_told = spares_by_first b (front.headers_end - 280 * front.entries) front.entries (dsds_of fronted.headers) n (text b n front fronted)
+  module _ (front : HeaderCheck) (checked : FrontChecked b n (Ok front)) where
+    pub fronted : Fronted b n front
+    fronted = checked.good front refl
 
-      entries-are : entries_from b (front.headers_end - 280 * front.entries) front.entries ≡ directory b
-      entries-are = the_directory b front.headers_end front.entries fronted.headers
+    -- what a reading of the numbers asks of the DSDs
+    pub spares_told : SparesByFirst b (front.headers_end - 280 * front.entries) front.entries
+    spares_told = spares_by_first b (front.headers_end - 280 * front.entries) front.entries (dsds_of fronted.headers) n (text b n front fronted)
 
-      -- what a reading of the numbers holds
-      module _ (reading : Reading) (counted : Counted (entries_from b (front.headers_end - 280 * front.entries) front.entries) reading)
-          (sets : Sets) (held : sets ≡ held_sets (entries_from b (front.headers_end - 280 * front.entries) front.entries)) where
-        of_directory : Counted (directory b) reading
-        of_directory = subst (λ (ds : List Entry). Counted ds reading) entries-are counted
+    entries-are : entries_from b (front.headers_end - 280 * front.entries) front.entries ≡ directory b
+    entries-are = the_directory b front.headers_end front.entries fronted.headers
 
-        held-are : sets ≡ held_sets (directory b)
-        held-are = held ∙ ap held_sets entries-are
+    set-rules : header_rules b n ≡ set_rules b n
+    set-rules = headers_split ∙ rw fronted.rules
 
-        pub sets_read : SetsRead (directory b) reading sets.offsets sets.sizes
-        sets_read = record { read = record { counted = of_directory; held = ap (λ (s : Sets). s.offsets) held-are }; extents = ap (λ (s : Sets). s.sizes) held-are }
+    pub sets_refuse : (f : Refusal) → refused f.number f.place f.entry ≡ set_rules b n → refused f.number f.place f.entry ≡ header_rules b n
+    sets_refuse f h = h ∙ sym set-rules
 
-        are : set_rules b n ≡ accepted → sets ≡ sets_of (directory b)
-        unfolding set_rules
-        are rules =
-            held-are
-            ∙ numbers-read b front.headers_end front.entries fronted.headers n (text b n front fronted) reading of_directory
-            ((or_else_accepts (number_rules b n) (place_rules (directory b) (headers_end b) n)).0 rules).0
+    -- what a reading of the numbers holds
+    module _ (reading : Reading) (counted : Counted (entries_from b (front.headers_end - 280 * front.entries) front.entries) reading)
+        (sets : Sets) (held : sets ≡ held_sets (entries_from b (front.headers_end - 280 * front.entries) front.entries)) where
+      of_directory : Counted (directory b) reading
+      of_directory = subst (λ (ds : List Entry). Counted ds reading) entries-are counted
 
-        pub sets_checked : (v : Verdict) → verdict_is v ≡ set_rules b n
-            → HeadersChecked b n (record { verdict = v; headers_end = front.headers_end; entries = front.entries }) sets
-        sets_checked v by-sets = record {
-          judged = by-sets ∙ sym set-rules;
-          headers = λ e. fronted.headers;
-          held = λ e. are (sym set-rules ∙ e);
-        }
-          where
-            set-rules : header_rules b n ≡ set_rules b n
-            set-rules = headers_split ∙ rw fronted.rules
+      held-are : sets ≡ held_sets (directory b)
+      held-are = held ∙ ap held_sets entries-are
+
+      pub sets_read : SetsRead (directory b) reading sets.offsets sets.sizes
+      sets_read = record { read = record { counted = of_directory; held = ap (λ (s : Sets). s.offsets) held-are }; extents = ap (λ (s : Sets). s.sizes) held-are }
+
+      are : set_rules b n ≡ accepted → sets ≡ sets_of (directory b)
+      unfolding set_rules
+      are rules =
+          held-are
+          ∙ numbers-read b front.headers_end front.entries fronted.headers n (text b n front fronted) reading of_directory
+          ((or_else_accepts (number_rules b n) (place_rules (directory b) (headers_end b) n)).0 rules).0
+
+      pub sets_good : accepted ≡ set_rules b n → HeadersChecked b n (Ok front) sets
+      unfolding verdict_is
+      sets_good h = record {
+        judged = h ∙ sym set-rules;
+        headers = λ x q. let e : front ≡ x = cc in subst (λ (y : HeaderCheck). Headers b y.headers_end y.entries) e fronted.headers;
+        held = λ e. are (sym h);
+      }
 
 -- ---- with the numbers
 
-module _ (b : List ℕ) (n : ℕ) (headers : HeaderCheck) (sets : Sets) (checked : HeadersChecked b n headers sets) where
-  pub stops : (r : Refusal) (x : Opening) → x ≡ closed r → headers.verdict ≡ Refused r → Opened b n x
+module _ (b : List ℕ) (n : ℕ) where
+  pub stays_closed : (f : Refusal) (r : Result Opening Refusal) → r ≡ Err f → refused f.number f.place f.entry ≡ header_rules b n → Opened b n r
   unfolding verdict_is
-  stops r x q h =
-      let all = told-refused headers.verdict r (header_rules b n) h checked.judged in
-      rw q (record { judged = sym all; begin = λ e. absurd (accepted≢refused (sym e ∙ all)); held = λ e. absurd (accepted≢refused (sym e ∙ all)); nothing = λ e. (refl, refl) })
+  stays_closed f r e h = rw e (record { judged = h; opens = λ x q. cc })
 
-  module _ (good : headers.verdict ≡ Accepted) where
-    fourteen : header_rules b n ≡ accepted
-    fourteen = told-accepted headers.verdict (header_rules b n) good checked.judged
+  module _ (headers : HeaderCheck) (sets : Sets) (checked : HeadersChecked b n (Ok headers) sets) where
+    pub fourteen : header_rules b n ≡ accepted
+    unfolding verdict_is
+    fourteen = sym checked.judged
 
     pub headers-are : Headers b headers.headers_end headers.entries
-    headers-are = checked.headers fourteen
+    headers-are = checked.headers headers refl
 
-    pub opens : (answer : Sets) → answer ≡ sets → Opened b n (record { verdict = Accepted; dsds = headers.headers_end - 280 * headers.entries; sets = answer })
+    pub opened : (dsds : ℕ) → dsds ≡ headers.headers_end - 280 * headers.entries → Opened b n (Ok (record { dsds = dsds; sets = sets }))
     unfolding verdict_is
-    opens answer c = record {
+    opened dsds d = record {
       judged = sym fourteen;
-      begin = λ e. (dsds_of headers-are).begin;
-      held = λ e. c ∙ checked.held e;
-      nothing = λ f. absurd (f fourteen);
+      opens = λ x q. let e : ◌≡◌ {A = Opening} (record { dsds = dsds; sets = sets }) x = cc in subst (Opens b) e (record { begin = d ∙ (dsds_of headers-are).begin; held = checked.held fourteen });
     }
 
 -- ---- and rules 15 and 16
 
-module _ (b : List ℕ) (first : Verdict) (sets : Sets) (judged : verdict_is first ≡ header_rules b (length b)) (held : header_rules b (length b) ≡ accepted → sets ≡ sets_of (directory b)) where
-  pub headers-refused : (r : Refusal) → first ≡ Refused r → verdict_is first ≡ verdict b
+module _ (b : List ℕ) where
+  pub headers-refused : (f : Refusal) → refused f.number f.place f.entry ≡ header_rules b (length b) → refused f.number f.place f.entry ≡ verdict b
   unfolding verdict verdict_from
-  headers-refused r h = judged ∙ rw (told-refused first r (header_rules b (length b)) h judged)
+  headers-refused f h = rw (← h)
 
-  module _ (good : first ≡ Accepted) where
-    all_fourteen : header_rules b (length b) ≡ accepted
-    all_fourteen = told-accepted first (header_rules b (length b)) good judged
-
+  module _ (sets : Sets) (fourteen : header_rules b (length b) ≡ accepted) (held : sets ≡ sets_of (directory b)) where
     fits : Fitting (directory b) (length b)
-    fits = fitting b (length b) (headed b (length b) all_fourteen)
+    fits = fitting b (length b) (headed b (length b) fourteen)
 
     pub numbers-laid : Laid sets (length b)
-    numbers-laid = laid b (length b) sets all_fourteen (held all_fourteen)
+    numbers-laid = laid b (length b) sets fourteen held
 
-    pub by_states : (v : Verdict) → Every sets (λ ds. verdict_is v ≡ state_rules ds (tally_of (states_of b ds))) → verdict_is v ≡ verdict b
+    pub by_states : (v : Result (Unit {0}) Refusal) → Every sets (λ ds. verdict_is v ≡ state_rules ds (tally_of (states_of b ds))) → verdict_is v ≡ verdict b
     unfolding verdict verdict_from
-    by_states v every = every (directory b) (length b) (held all_fourteen) fits ∙ rw all_fourteen
+    by_states v every = every (directory b) (length b) held fits ∙ rw fourteen
 
-    pub not_variable : has_variable sets.roles sets.entries ≡ false → accepted ≡ verdict b
+  module _ (r : Result Opening Refusal) (opened : Opened b (length b) r) where
+    pub opening_laid : (o : Opening) → r ≡ Ok o → (header_rules b (length b) ≡ accepted) × (o.sets ≡ sets_of (directory b))
+    opening_laid o e = (told-accepted r o (header_rules b (length b)) e opened.judged, (opened.opens o e).held)
+
+    pub whole_good : accepted ≡ verdict b → OpenedWhole b r
     unfolding verdict verdict_from
-    not_variable h = sym (rw all_fourteen (no_variable sets (directory b) (length b) (held all_fourteen) fits _ h))
+    whole_good h = record {
+      judged = opened.judged ∙ ((or_else_accepts (header_rules b (length b)) _).0 (sym h)).0 ∙ h;
+      opens = opened.opens;
+    }
+
+  pub stays_shut : (f : Refusal) (r : Result Opening Refusal) → r ≡ Err f → refused f.number f.place f.entry ≡ verdict b → OpenedWhole b r
+  unfolding verdict_is
+  stays_shut f r e h = rw e (record { judged = h; opens = λ x q. cc })
+
+  -- by the numbers that were read of the headers
+  module _ (sets : Sets) (good : accepted ≡ header_rules b (length b)) (held : header_rules b (length b) ≡ accepted → sets ≡ sets_of (directory b)) where
+    pub read_laid : Laid sets (length b)
+    read_laid = numbers-laid sets (sym good) (held (sym good))
+
+    pub read_judged : (v : Result (Unit {0}) Refusal) → Every sets (λ ds. verdict_is v ≡ state_rules ds (tally_of (states_of b ds))) → verdict_is v ≡ verdict b
+    read_judged = by_states sets (sym good) (held (sym good))
+
+-- what the judgement of a product needs of all this
+pub ruleset judging = (handed-verdict, headers-refused, read_laid)

@@ -1,14 +1,13 @@
 -- Rules 1 to 14 in the two steps that opening takes, those of text and those of the sets, and what it answers.
 -- Assumes nothing.
-use Rattle.std.specs.Prelude.{ℕ, List, ◌≡◌}
+use Rattle.std.specs.Prelude.{ℕ, List, Result, Ok, ◌≡◌}
 use Rattle.layout.specs.Answer.{Answer, accepted, ◌or_else◌}
 use Rattle.layout.specs.Answers.{verdict_is}
 use Rattle.layout.specs.Entries.{Entry, headers_end, dsds_at, directory}
-use Rattle.layout.specs.Rules.{rules1to6, header_rules}
+use Rattle.layout.specs.Rules.{rules1to6, header_rules, verdict}
 use Rattle.layout.specs.declared.Refusal.{Refusal}
-use Rattle.layout.specs.declared.Verdict.TheVariants as verdict-cases
 use Rattle.header.specs.declared.HeaderCheck.{HeaderCheck}
-use Rattle.directory.specs.Numbers.{sets_of, no_sets, held_sets}
+use Rattle.directory.specs.Numbers.{sets_of, held_sets}
 use Rattle.directory.specs.Checks.{Headers, ReadFrom, text_rules, number_rules, place_rules}
 use Rattle.directory.specs.declared.Reading.{Reading}
 use Rattle.directory.specs.declared.Sets.{Sets}
@@ -35,9 +34,9 @@ pub record Fronted (b : List ℕ) (n : ℕ) (r : HeaderCheck) : Type 0 where
   pub rules : front_rules b n ≡ accepted
   pub headers : Headers b r.headers_end r.entries
 
-pub record FrontChecked (b : List ℕ) (n : ℕ) (r : HeaderCheck) : Type 0 where
-  pub judged : verdict_is r.verdict ≡ front_rules b n
-  pub good : front_rules b n ≡ accepted → Fronted b n r
+pub record FrontChecked (b : List ℕ) (n : ℕ) (r : Result HeaderCheck Refusal) : Type 0 where
+  pub judged : verdict_is r ≡ front_rules b n
+  pub good : (h : HeaderCheck) → r ≡ Ok h → Fronted b n h
 
 -- what a reading of these entries counts, and the offsets and sizes that it holds
 pub record SetsRead (ds : List Entry) (r : Reading) (offsets sizes : List ℕ) : Type 0 where
@@ -45,18 +44,22 @@ pub record SetsRead (ds : List Entry) (r : Reading) (offsets sizes : List ℕ) :
   pub extents : sizes ≡ (held_sets ds).sizes
 
 -- the answer of rules 1 to 14; where it accepts, where the headers end and the numbers of the directory
-pub record HeadersChecked (b : List ℕ) (n : ℕ) (r : HeaderCheck) (sets : Sets) : Type 0 where
-  pub judged : verdict_is r.verdict ≡ header_rules b n
-  pub headers : header_rules b n ≡ accepted → Headers b r.headers_end r.entries
+pub record HeadersChecked (b : List ℕ) (n : ℕ) (r : Result HeaderCheck Refusal) (sets : Sets) : Type 0 where
+  pub judged : verdict_is r ≡ header_rules b n
+  pub headers : (h : HeaderCheck) → r ≡ Ok h → Headers b h.headers_end h.entries
   pub held : header_rules b n ≡ accepted → sets ≡ sets_of (directory b)
 
--- a refusal, and nothing beside it
-abbrev pub closed : Refusal → Opening
-closed r = record { verdict = verdict-cases.Refused r; dsds = 0; sets = no_sets }
+-- where the DSDs of a product begin, and the numbers of its directory
+pub record Opens (b : List ℕ) (o : Opening) : Type 0 where
+  pub begin : o.dsds ≡ dsds_at b
+  pub held : o.sets ≡ sets_of (directory b)
 
--- the answer of rules 1 to 14; where it accepts, where the DSDs begin and the numbers of the directory; beside a refusal nothing
-pub record Opened (b : List ℕ) (n : ℕ) (r : Opening) : Type 0 where
-  pub judged : verdict_is r.verdict ≡ header_rules b n
-  pub begin : header_rules b n ≡ accepted → r.dsds ≡ dsds_at b
-  pub held : header_rules b n ≡ accepted → r.sets ≡ sets_of (directory b)
-  pub nothing : (header_rules b n ≡ accepted → ⊥) → (r.dsds ≡ 0) × (r.sets ≡ no_sets)
+-- the answer of rules 1 to 14; where it accepts, those
+pub record Opened (b : List ℕ) (n : ℕ) (r : Result Opening Refusal) : Type 0 where
+  pub judged : verdict_is r ≡ header_rules b n
+  pub opens : (o : Opening) → r ≡ Ok o → Opens b o
+
+-- the answer of all sixteen rules; where it accepts, those
+pub record OpenedWhole (b : List ℕ) (r : Result Opening Refusal) : Type 0 where
+  pub judged : verdict_is r ≡ verdict b
+  pub opens : (o : Opening) → r ≡ Ok o → Opens b o

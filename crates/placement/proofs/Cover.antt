@@ -14,7 +14,8 @@ use Rattle.layout.specs.Search.{first, find}
 use Rattle.layout.specs.Entries.{Entry, holds}
 use Rattle.layout.specs.Rules.{holds_at, rule14_at}
 use Rattle.layout.proofs.Laws.{lt-or-le, ltb_same, need-accepts, some-T, some_same, first_same, first_skip, find_at, find-before}
-use Rattle.placement.specs.Sets.{Held}
+use Rattle.std.specs.Prelude.{Option, Some, None}
+use Rattle.placement.specs.Sets.{FoundBelow, Held}
 use Rattle.placement.proofs.Sets.{some_false}
 use Rattle.placement.specs.Cover.{covers, covers_at, is_covered, rule14_by, Holding, Uncovered}
 
@@ -75,9 +76,11 @@ module _ (offsets sizes : List ℕ) where
     missed = λ q. absurd (omega arith);
   }
 
-  pub holding_none : (n p f r q : ℕ) → r ≡ find (covers_at offsets sizes p) f (n - f) → n ≤ r → q ≡ find (covers_at offsets sizes p) 0 (f - 0) → f ≤ q → Holding offsets sizes n p n
+  pub holding_before : (n p f : ℕ) → f ≤ n → n ≡ find (covers_at offsets sizes p) f (n - f) → (r : Option ℕ) → FoundBelow f (λ i. i ≡ find (covers_at offsets sizes p) 0 (f - 0)) r
+      → FoundBelow n (Holding offsets sizes n p) r
   unfolding is_covered
-  holding_none n p f r q e h d g = record {
+  holding_before n p f l e (Some i) h = (omega arith, holding_found n p 0 f i (omega arith) l h.1 h.0)
+  holding_before n p f l e None d = record {
     within = omega arith;
     found = λ q. absurd (omega arith);
     missed = λ _. some_false (covers_at offsets sizes p) 0 n (λ k w u. ⊎_elim

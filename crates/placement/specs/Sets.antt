@@ -1,7 +1,7 @@
 -- Rules 12 and 13 over arrays of offsets and sizes: the tests of one set and of two by their numbers, and what the searches answer of any directory
 -- that the arrays hold.
 -- Assumes nothing.
-use Rattle.std.specs.Prelude.{ℕ, ◌+◌, ◌-◌, ◌^◌, ◌≤◌, ◌<◌, Bool, false, ◌&&◌, not, List, ◌≡◌, leb, ltb, eqb, length, get_or}
+use Rattle.std.specs.Prelude.{ℕ, ◌+◌, ◌-◌, ◌^◌, ◌≤◌, ◌<◌, Bool, false, ◌&&◌, not, Option, MatchOption, List, ◌≡◌, leb, ltb, eqb, length, get_or}
 use Rattle.layout.specs.Answer.{Answer, need, ◌⇒◌}
 use Rattle.layout.specs.Search.{first, some}
 use Rattle.layout.specs.Entries.{Entry, at, start, extent, non_empty}
@@ -28,6 +28,10 @@ unfoldable pub rule13_by : List ℕ → List ℕ → ℕ → Answer
 rule13_by offsets sizes i = need (not (some (overlaps_at offsets sizes i) 0 i)) 13 (get_or offsets i 0) i
 
 -- ---- what the searches answer
+
+-- what a search below n answers: P of the number found, and of n where none is
+abbrev pub FoundBelow : ℕ → (ℕ → Type 0) → Option ℕ → Type 0
+FoundBelow n P answer = MatchOption answer (P n) (λ i. (i < n) × P i)
 
 -- the largest number of 64 bits
 abbrev pub largest : ℕ

@@ -1,5 +1,6 @@
 -- What an opened product gives to the calls: its refusal, or what each call goes by; and the parts that it hands out.
 -- Assumes nothing.
+use Rattle.std.specs.Prelude.{Result, Ok, Err}
 use Prim.Native.Nat.{ℕ, ◌+◌, ◌*◌, ◌-◌, ◌≤◌, ◌<◌}
 use mathlib.Core.List.{List, []}
 use mathlib.Core.Path.{◌≡◌, refl, sym, ap, ◌∙◌}
@@ -13,28 +14,27 @@ use Rattle.layout.specs.States.{states_of}
 use Rattle.layout.specs.Rules.{header_rules, verdict}
 use Rattle.layout.specs.Records.{Span, lengths, record_at, record_length, record_part, record_refusal, record_place, sph_place, part_of}
 use Rattle.layout.specs.Fields.{record_of}
-use Rattle.layout.specs.Answers.{place_is, directory_of}
+use Rattle.layout.specs.Answers.{reply_is, place_is, span_is, directory_of}
 use Rattle.layout.specs.declared.Refusal.{Refusal}
-use Rattle.layout.specs.declared.Place.{Place}
-use Rattle.layout.specs.declared.Place.TheVariants as places
+use Rattle.layout.specs.declared.Span.{Span as SpanAnswered}
 use Rattle.layout.proofs.Laws.{or_else_accepts, need-accepts}
 use Rattle.layout.proofs.Replies.{else_is, else_refusal}
 use Rattle.layout.proofs.Sound.{both_accept, sound, directory_from, length-directory}
 use Rattle.layout.proofs.Whole.{record-inside}
 use Rattle.directory.specs.Numbers.{directory_with}
 use Rattle.directory.proofs.Rules.{with_numbers}
-use Rattle.opening.specs.Opening.{Opened}
+use Rattle.opening.specs.Opening.{Opens}
 use Rattle.opening.specs.declared.Opening.{Opening}
 use Rattle.records.specs.Open.{Open}
 use Rattle.records.proofs.Laws.{entries-few, entries-held}
 
-module _ (b : List ℕ) (o : Opening) (opened : Opened b (length b) o) where
+module _ (b : List ℕ) (o : Opening) (opens : Opens b o) where
   module _ (a : verdict b ≡ accepted) where
     fourteen : header_rules b (length b) ≡ accepted
     fourteen = (both_accept b a).0
 
     pub now_open : Open b o.sets
-    now_open = record { accepts = a; held = opened.held fourteen }
+    now_open = record { accepts = a; held = opens.held }
 
     all-entries : o.sets.entries ≡ entries b
     all-entries = entries-held b o.sets now_open ∙ length-directory b
@@ -44,18 +44,18 @@ module _ (b : List ℕ) (o : Opening) (opened : Opened b (length b) o) where
     unfolding dsds_at headers_end
     now_dsds =
         let m = (sound b a).headed in
-        (omega (arith, opened.begin fourteen, m.dsds), omega (arith, opened.begin fourteen, all-entries, m.dsds, m.headers))
+        (omega (arith, opens.begin, m.dsds), omega (arith, opens.begin, all-entries, m.dsds, m.headers))
 
     pub now_few : o.sets.entries ≤ 128
     now_few = entries-few b o.sets now_open
 
     pub lines_are : o.dsds - 1247 ≡ dsds_at b - 1247
-    lines_are = rw (opened.begin fourteen)
+    lines_are = rw (opens.begin)
 
     pub now_directory : directory_with o.sets (entries_from b o.dsds o.sets.entries) ≡ directory_of (directory b)
     now_directory =
-        ap (directory_with o.sets) (directory_from b o.dsds o.sets.entries (opened.begin fourteen) all-entries)
-        ∙ with_numbers b (length b) fourteen o.sets (opened.held fourteen)
+        ap (directory_with o.sets) (directory_from b o.dsds o.sets.entries (opens.begin) all-entries)
+        ∙ with_numbers b (length b) fourteen o.sets (opens.held)
 
 -- ---- places and parts
 
@@ -101,32 +101,30 @@ module _ (b : List ℕ) (i j : ℕ) where
   record-refused n p e h = else_refusal (record_refusal b i j) span n p e (sym place_span ∙ h)
 
 -- what a place is
-module _ (b : List ℕ) (r : Place) (a : Reply Span) (answered : place_is r ≡ a) where
-  at_place : (p n : ℕ) → r ≡ places.At p n → a ≡ is (record { place = p; length = n })
-  unfolding place_is
-  at_place p n h = sym answered ∙ rw h
+module _ (b : List ℕ) (r : Result SpanAnswered Refusal) (a : Reply Span) (answered : place_is r ≡ a) where
+  pub at_place : (s : SpanAnswered) → r ≡ Ok s → a ≡ is (span_is s)
+  unfolding reply_is
+  at_place s h = sym answered ∙ rw h
 
-  no_place : (x : Refusal) → r ≡ places.Refused x → a ≡ refusal x.number x.place x.entry
-  unfolding place_is
+  pub no_place : (x : Refusal) → r ≡ Err x → a ≡ refusal x.number x.place x.entry
+  unfolding reply_is
   no_place x h = sym answered ∙ rw h
 
-  pub in_product : Within b a → (p n : ℕ) → r ≡ places.At p n → p + n ≤ length b
-  in_product w p n h = w (record { place = p; length = n }) (at_place p n h)
+  pub in_product : Within b a → (s : SpanAnswered) → r ≡ Ok s → s.place + s.length ≤ length b
+  in_product w s h = w (span_is s) (at_place s h)
 
-  pub part-is : (p n : ℕ) → r ≡ places.At p n → part b p n ≡ part_of b a
+  pub part-is : (s : SpanAnswered) → r ≡ Ok s → part b s.place s.length ≡ part_of b a
   unfolding part_of
-  part-is p n h = rw (at_place p n h)
+  part-is s h = rw (at_place s h)
 
-  pub no_part : (x : Refusal) → r ≡ places.Refused x → [] ≡ part_of b a
+  pub no_part : (x : Refusal) → r ≡ Err x → [] ≡ part_of b a
   unfolding part_of
   no_part x h = rw (no_place x h)
 
 -- what a call reads of a record: the part that is there, or the place's refusal
-module _ {A : Type 0} (b : List ℕ) (i j : ℕ) (r : Place) (answered : place_is r ≡ record_place b i j) where
-  pub reads_record : (F : List ℕ → Reply A) (p n : ℕ) → r ≡ places.At p n → {l : List ℕ} → l ≡ part b p n → F l ≡ (record_refusal b i j before F (record_of b i j))
-  reads_record F p n h e =
-      let t = record_there b i j (record { place = p; length = n }) (at_place b r (record_place b i j) answered p n h) in
-      rw (t.0, t.1, e)
+module _ {A : Type 0} (b : List ℕ) (i j : ℕ) where
+  pub reads_record : (F : List ℕ → Reply A) (s : SpanAnswered) → place_is (Ok s) ≡ record_place b i j → {l : List ℕ} → l ≡ part b s.place s.length → F l ≡ (record_refusal b i j before F (record_of b i j))
+  reads_record F s h e = let t = record_there b i j (span_is s) (at_place b (Ok s) (record_place b i j) h s refl) in rw (t.0, t.1, e)
 
-  pub reads_nothing : (x : Refusal) (y : Reply A) → r ≡ places.Refused x → refusal x.number x.place x.entry ≡ (record_refusal b i j before y)
-  reads_nothing x y h = rw (record-refused b i j x.number x.place x.entry (no_place b r (record_place b i j) answered x h))
+  pub reads_nothing : (x : Refusal) (y : Reply A) → place_is (Err x) ≡ record_place b i j → refusal x.number x.place x.entry ≡ (record_refusal b i j before y)
+  reads_nothing x y h = rw (record-refused b i j x.number x.place x.entry (no_place b (Err x) (record_place b i j) h x refl))

@@ -1,6 +1,7 @@
 -- Theorems over the calls' promises: two results that a promise allows are equal; the records handed out, in file order behind the headers, are the
 -- product, and the directory's ranks are that order; a part is empty exactly where its place is refused or has no byte.
 -- Assumes nothing.
+use Rattle.std.specs.Prelude.{Result, Ok, Err}
 use Prim.Native.Nat.{ℕ, ◌+◌, ◌-◌, ◌^◌, ◌≤◌, ◌<◌}
 use mathlib.Core.Bool.{Bool, true, false, cond}
 use mathlib.Core.List.{List, [], ◌∷◌, ◌++◌, map}
@@ -11,7 +12,7 @@ use lib.ListN.{length, drop, get_or, replicate, length-drop, length-replicate}
 use lib.Seq.{length-take-le}
 use borrow.Author.Tests.{lt-ltb}
 use Rattle.layout.specs.Bytes.{part}
-use Rattle.layout.specs.Answer.{accepted, Reply, refusal, is}
+use Rattle.layout.specs.Answer.{accepted, Reply, refusal, is, ◌else◌}
 use Rattle.layout.specs.Search.{All, upto, join}
 use Rattle.layout.specs.Entries.{Entry, headers_end, directory, at, kind_of, is_variable}
 use Rattle.layout.specs.States.{states_of}
@@ -20,16 +21,17 @@ use Rattle.layout.specs.Faults.{NonEmpty}
 use Rattle.layout.specs.Records.{Span, variable_lengths, lengths, record_part, records, record_refusal, record_place, sph_place, part_of}
 use Rattle.layout.specs.Order.{file_order, by_rank, records_at, records_in_order}
 use Rattle.layout.specs.Fields.{field_reply, point_reply}
-use Rattle.layout.specs.Answers.{verdict_is, place_is, field_answer_is, point_answer_is, directory_of, directory_for}
-use Rattle.values.specs.Header.{header_for}
-use Rattle.layout.specs.declared.Verdict.{Verdict}
-use Rattle.layout.specs.declared.Place.{Place}
-use Rattle.layout.specs.declared.FieldAnswer.{FieldAnswer}
-use Rattle.layout.specs.declared.PointAnswer.{PointAnswer}
-use Rattle.layout.specs.declared.DirectoryAnswer.{DirectoryAnswer}
-use Rattle.values.specs.declared.HeaderAnswer.{HeaderAnswer}
+use Rattle.layout.specs.Answers.{reply_is, reply, verdict_is, place_is, field_answer_is, point_answer_is, directory_of}
+use Rattle.values.specs.Header.{header_of}
+use Rattle.layout.specs.declared.Refusal.{Refusal}
+use Rattle.layout.specs.declared.Span.{Span as SpanAnswered}
+use Rattle.layout.specs.declared.Field.{Field}
+use Rattle.layout.specs.declared.Point.{Point}
+use Rattle.layout.specs.declared.Directory.{Directory}
+use Rattle.values.specs.declared.MainHeader.{MainHeader}
 use Rattle.layout.proofs.Agree.{map-upto_same}
-use Rattle.layout.proofs.Maps.{one-verdict, one_place, one_field_answer, one_point_answer}
+use Rattle.layout.proofs.Maps.{one-verdict, one-reply, one_place, one_field_answer, one_point_answer}
+use Rattle.layout.proofs.Replies.{else_is, else_refusal}
 use Rattle.layout.proofs.Tests.{variable_T}
 use Rattle.layout.proofs.Sound.{length-directory, accepted-entries, sound}
 use Rattle.layout.proofs.Whole.{joins, only_sets_in_order}
@@ -39,25 +41,31 @@ use Rattle.product.proofs.Calls.{sph_within, record-within}
 module _ (b : List ℕ) where
   -- ---- two results that a promise allows are equal
 
-  pub one_judgement : (v w : Verdict) → verdict_is v ≡ verdict b → verdict_is w ≡ verdict b → v ≡ w
+  pub one_judgement : (v w : Result (Unit {0}) Refusal) → verdict_is v ≡ verdict b → verdict_is w ≡ verdict b → v ≡ w
   one_judgement v w h k = one-verdict v w (h ∙ sym k)
 
-  pub one-directory : (x y : DirectoryAnswer) → verdict_is x.verdict ≡ verdict b → x.directory ≡ directory_for (verdict b) b → verdict_is y.verdict ≡ verdict b → y.directory ≡ directory_for (verdict b) b → x ≡ y
-  one-directory x y h d k e = let v = one_judgement x.verdict y.verdict h k in let l = d ∙ sym e in λ i. record { verdict = v i; directory = l i }
+  pub one-directory : (x y : Result Directory Refusal) → reply x ≡ (verdict b else directory_of (directory b)) → reply y ≡ (verdict b else directory_of (directory b)) → x ≡ y
+  one-directory x y h k = one-reply x y (h ∙ sym k)
 
-  pub one_header : (x y : HeaderAnswer) → verdict_is x.verdict ≡ verdict b → x.header ≡ header_for (verdict b) b → verdict_is y.verdict ≡ verdict b → y.header ≡ header_for (verdict b) b → x ≡ y
-  one_header x y h d k e = let v = one_judgement x.verdict y.verdict h k in let l = d ∙ sym e in λ i. record { verdict = v i; header = l i }
+  pub one_header : (x y : Result MainHeader Refusal) → reply x ≡ (verdict b else header_of b) → reply y ≡ (verdict b else header_of b) → x ≡ y
+  one_header x y h k = one-reply x y (h ∙ sym k)
 
-  pub one_sph_place : (x y : Place) → place_is x ≡ sph_place b → place_is y ≡ sph_place b → x ≡ y
+  -- and the verdict is in the answer: where nothing is refused the answer is a value, else the refusal
+  pub judged : {A : Type 0} (x : A) (r : Result A Refusal) → reply r ≡ (verdict b else x) → verdict_is r ≡ verdict b
+  unfolding reply_is verdict_is
+  judged x (Ok y) h = sym (else_is (verdict b) x y (sym h)).0
+  judged x (Err f) h = sym (else_refusal (verdict b) x f.number f.place f.entry (sym h))
+
+  pub one_sph_place : (x y : Result SpanAnswered Refusal) → place_is x ≡ sph_place b → place_is y ≡ sph_place b → x ≡ y
   one_sph_place x y h k = one_place x y (h ∙ sym k)
 
-  pub one-record-place : (i j : ℕ) (x y : Place) → place_is x ≡ record_place b i j → place_is y ≡ record_place b i j → x ≡ y
+  pub one-record-place : (i j : ℕ) (x y : Result SpanAnswered Refusal) → place_is x ≡ record_place b i j → place_is y ≡ record_place b i j → x ≡ y
   one-record-place i j x y h k = one_place x y (h ∙ sym k)
 
-  pub one_field : (i j off kind : ℕ) (x y : FieldAnswer) → field_answer_is x ≡ field_reply b i j off kind → field_answer_is y ≡ field_reply b i j off kind → x ≡ y
+  pub one_field : (i j off kind : ℕ) (x y : Result Field Refusal) → field_answer_is x ≡ field_reply b i j off kind → field_answer_is y ≡ field_reply b i j off kind → x ≡ y
   one_field i j off kind x y h k = one_field_answer x y (h ∙ sym k)
 
-  pub one_point : (i j lat lon alt : ℕ) (x y : PointAnswer) → point_answer_is x ≡ point_reply b i j lat lon alt → point_answer_is y ≡ point_reply b i j lat lon alt → x ≡ y
+  pub one_point : (i j lat lon alt : ℕ) (x y : Result Point Refusal) → point_answer_is x ≡ point_reply b i j lat lon alt → point_answer_is y ≡ point_reply b i j lat lon alt → x ≡ y
   one_point i j lat lon alt x y h k = one_point_answer x y (h ∙ sym k)
 
   -- ---- parts
@@ -141,12 +149,17 @@ module _ (b : List ℕ) where
 
     -- ---- the ranks that the directory answers
 
-    module _ (x : DirectoryAnswer) (listed : x.directory ≡ directory_for (verdict b) b) where
-      answered : x.directory ≡ directory_of ds
-      answered = listed ∙ rw accepts
+    -- a directory is answered
+    pub directory_answered : (r : Result Directory Refusal) → reply r ≡ (verdict b else directory_of ds) → r ≡ Ok (directory_of ds)
+    unfolding reply_is
+    directory_answered r listed = one-reply r (Ok (directory_of ds)) (listed ∙ rw accepts)
+
+    module _ (r : Result Directory Refusal) (listed : reply r ≡ (verdict b else directory_of ds)) (x : Directory) (is_answered : r ≡ Ok x) where
+      answered : x ≡ directory_of ds
+      answered = let e : Ok x ≡ Ok (directory_of ds) = sym is_answered ∙ directory_answered r listed in cc
 
       abbrev rank_answered : ℕ → ℕ
-      rank_answered i = get_or x.directory.ranks i 0
+      rank_answered i = get_or x.ranks i 0
 
       -- how many sets there are: NUM_DATA_SETS says it (`sets_counted`)
       abbrev sets : ℕ
@@ -154,26 +167,26 @@ module _ (b : List ℕ) where
 
       -- the sets by rank, 0 to the last, are file order
       abbrev sets_by_rank : List ℕ
-      sets_by_rank = by_rank x.directory.ranks x.directory.entries sets
+      sets_by_rank = by_rank x.ranks x.entries sets
 
       pub ranks-are_file_order : sets_by_rank ≡ file_order ds
       unfolding directory_of
       ranks-are_file_order = rw answered (by_rank_lem b (sound b accepts))
 
       -- each of 0, 1 and so on is the rank of a non-empty set
-      pub rank_each : (r : ℕ) → r < sets → (get_or sets_by_rank r 0 < x.directory.entries) × NonEmpty (at ds (get_or sets_by_rank r 0)) × (rank_answered (get_or sets_by_rank r 0) ≡ r)
+      pub rank_each : (r : ℕ) → r < sets → (get_or sets_by_rank r 0 < x.entries) × NonEmpty (at ds (get_or sets_by_rank r 0)) × (rank_answered (get_or sets_by_rank r 0) ≡ r)
       unfolding directory_of
       rank_each r l =
           let set = is_set b (sound b accepts) r l in
           rw (ranks-are_file_order, answered) (set.0, set.1, rank_of-set b (sound b accepts) r l)
 
       -- and of that one alone: a non-empty set is the one of its rank
-      pub rank_once : (i : ℕ) → i < x.directory.entries → NonEmpty (at ds i) → (rank_answered i < sets) × (get_or sets_by_rank (rank_answered i) 0 ≡ i)
+      pub rank_once : (i : ℕ) → i < x.entries → NonEmpty (at ds i) → (rank_answered i < sets) × (get_or sets_by_rank (rank_answered i) 0 ≡ i)
       unfolding directory_of
       rank_once i l h = rw (ranks-are_file_order, answered) (set_of_rank b (sound b accepts) i (rw answered at l) h)
 
       -- every other entry has 128
-      pub rank-none : (i : ℕ) → i < x.directory.entries → (NonEmpty (at ds i) → ⊥) → rank_answered i ≡ 128
+      pub rank-none : (i : ℕ) → i < x.entries → (NonEmpty (at ds i) → ⊥) → rank_answered i ≡ 128
       unfolding directory_of
       rank-none i l h = rw answered (no_rank b (sound b accepts) i (rw answered at l) h)
 

@@ -3,83 +3,59 @@
 
 ghost use Rattle.std.specs.Prelude.{◌+◌, ◌≤◌, ◌≡◌, length};
 ghost use Rattle.layout.specs.Bytes.{part};
-ghost use Rattle.layout.specs.Answers.{verdict_is, place_is, field_answer_is, point_answer_is, directory_for};
-ghost use Rattle.values.specs.Header.{header_for};
+ghost use Rattle.layout.specs.Answers.{reply, verdict_is, place_is, field_answer_is, point_answer_is, directory_of};
+ghost use Rattle.layout.specs.Answer.{◌else◌};
+ghost use Rattle.layout.specs.Entries.{directory};
+ghost use Rattle.values.specs.Header.{header_of};
 ghost use Rattle.layout.specs.Rules.{verdict};
 ghost use Rattle.layout.specs.Records.{sph_place, record_place, part_of};
 ghost use Rattle.layout.specs.Fields.{field_reply, point_reply};
 
-use layout::{Directory, DirectoryAnswer, FieldAnswer, Place, PointAnswer, Verdict};
-use values::{HeaderAnswer, MainHeader};
+use layout::{Directory, Field, Point, Refusal, Span};
+use values::MainHeader;
 
 // Accepted, or refused with number, place and entry.
-pub fn judge(p: &[u8]) -> Verdict
+pub fn judge(p: &[u8]) -> Result<(), Refusal>
     ensures { verdict_is result ≡ verdict p.now }
 {
     opening::judge_product(p)
 }
 
-// The directory beside the verdict.
-pub fn open_directory(p: &[u8]) -> DirectoryAnswer
-    ensures judged { verdict_is result.verdict ≡ verdict p.now }
-    ensures listed { result.directory ≡ directory_for (verdict p.now) p.now }
+// The directory.
+pub fn open_directory(p: &[u8]) -> Result<Directory, Refusal>
+    ensures { reply result ≡ (verdict p.now else directory_of (directory p.now)) }
 {
-    let opened = opening::open_headers(p, p.len() as u64);
-    let verdict = opening::judge_opened(p, opened);
-    if let Verdict::Refused(refusal) = verdict {
-        return DirectoryAnswer {
-            verdict: Verdict::Refused(refusal),
-            directory: Directory::none(),
-        };
-    }
-    let sets = opened.sets;
-    DirectoryAnswer {
-        verdict: Verdict::Accepted,
-        directory: directory::directory_from(p, opened.dsds, sets),
-    }
+    let opened = opening::open_product(p)?;
+    Ok(directory::directory_from(p, opened.dsds, &opened.sets))
 }
 
-// The 34 values of the main header beside the verdict.
-pub fn header_values(p: &[u8]) -> HeaderAnswer
-    ensures judged { verdict_is result.verdict ≡ verdict p.now }
-    ensures valued { result.header ≡ header_for (verdict p.now) p.now }
+// The 34 values of the main header.
+pub fn header_values(p: &[u8]) -> Result<MainHeader, Refusal>
+    ensures { reply result ≡ (verdict p.now else header_of p.now) }
 {
-    let verdict = opening::judge_product(p);
-    if let Verdict::Refused(refusal) = verdict {
-        return HeaderAnswer {
-            verdict: Verdict::Refused(refusal),
-            header: MainHeader::none(),
-        };
-    }
-    HeaderAnswer {
-        verdict: Verdict::Accepted,
-        header: MainHeader::at(p),
-    }
+    opening::judge_product(p)?;
+    Ok(MainHeader::at(p))
 }
 
 // Where the SPH lines stand: all bytes of the SPH before the DSDs.
-pub fn sph_place(p: &[u8]) -> Place
+pub fn sph_place(p: &[u8]) -> Result<Span, Refusal>
     ensures { place_is result ≡ sph_place p.now }
 {
-    let opened = opening::open_headers(p, p.len() as u64);
-    let verdict = opening::judge_opened(p, opened);
-    if let Verdict::Refused(refusal) = verdict {
-        return Place::Refused(refusal);
-    }
+    let opened = opening::open_product(p)?;
     let lines = opened.dsds - MainHeader::SIZE;
-    Place::At {
+    Ok(Span {
         place: MainHeader::SIZE as u64,
         length: lines as u64,
-    }
+    })
 }
 
 // The part of a product at a place.
-fn part_at(p: &[u8], place: u64, size: u64) -> &[u8]
-    requires { place + size ≤ length p.now }
-    ensures { result.now ≡ part p.now place size }
+fn part_at(p: &[u8], span: Span) -> &[u8]
+    requires { span.place + span.length ≤ length p.now }
+    ensures { result.now ≡ part p.now span.place span.length }
 {
-    let start = place as usize;
-    let end = start + size as usize;
+    let start = span.place as usize;
+    let end = start + span.length as usize;
     &p[start..end]
 }
 
@@ -88,22 +64,17 @@ pub fn sph_part(p: &[u8]) -> &[u8]
     ensures { result.now ≡ part_of p.now (sph_place p.now) }
 {
     match sph_place(p) {
-        Place::At { place, length } => { part_at(p, place, length) }
-        Place::Refused(_) => &p[..0],
+        Ok(span) => { part_at(p, span) }
+        Err(_) => &p[..0],
     }
 }
 
 // Where a record of an entry stands.
-pub fn record_place(p: &[u8], entry: usize, asked: usize) -> Place
+pub fn record_place(p: &[u8], entry: usize, asked: usize) -> Result<Span, Refusal>
     ensures { place_is result ≡ record_place p.now entry asked }
 {
-    let opened = opening::open_headers(p, p.len() as u64);
-    let verdict = opening::judge_opened(p, opened);
-    if let Verdict::Refused(refusal) = verdict {
-        return Place::Refused(refusal);
-    }
-    let sets = opened.sets;
-    records::place_of_record(p, sets, entry, asked)
+    let opened = opening::open_product(p)?;
+    records::place_of_record(p, &opened.sets, entry, asked)
 }
 
 // The record, or the empty part.
@@ -111,21 +82,23 @@ pub fn record_part(p: &[u8], entry: usize, asked: usize) -> &[u8]
     ensures { result.now ≡ part_of p.now (record_place p.now entry asked) }
 {
     match record_place(p, entry, asked) {
-        Place::At { place, length } => { part_at(p, place, length) }
-        Place::Refused(_) => &p[..0],
+        Ok(span) => { part_at(p, span) }
+        Err(_) => &p[..0],
     }
 }
 
-// A field of a record, by its offset in the record and its kind.
-pub fn field_at(p: &[u8], entry: usize, asked: usize, offset: usize, kind: usize) -> FieldAnswer
+// A field of a record, by its offset in the record and the number of its kind: any number, as C passes it.
+pub fn field_at(
+    p: &[u8],
+    entry: usize,
+    asked: usize,
+    offset: usize,
+    kind: usize,
+) -> Result<Field, Refusal>
     ensures { field_answer_is result ≡ field_reply p.now entry asked offset kind }
 {
-    match record_place(p, entry, asked) {
-        Place::At { place, length } => {
-            fields::field_in(part_at(p, place, length), entry, offset, kind)
-        }
-        Place::Refused(refusal) => FieldAnswer::Refused(refusal),
-    }
+    let span = record_place(p, entry, asked)?;
+    fields::field_in(part_at(p, span), entry, offset, kind)
 }
 
 // The point at three offsets in a record.
@@ -136,19 +109,9 @@ pub fn point_at(
     latitude: usize,
     longitude: usize,
     altitude: usize,
-) -> PointAnswer
+) -> Result<Point, Refusal>
     ensures { point_answer_is result ≡ point_reply p.now entry asked latitude longitude altitude }
 {
-    match record_place(p, entry, asked) {
-        Place::At { place, length } => {
-            fields::point_in(
-                part_at(p, place, length),
-                entry,
-                latitude,
-                longitude,
-                altitude,
-            )
-        }
-        Place::Refused(refusal) => PointAnswer::Refused(refusal),
-    }
+    let span = record_place(p, entry, asked)?;
+    fields::point_in(part_at(p, span), entry, latitude, longitude, altitude)
 }

@@ -1,5 +1,6 @@
 -- Records of equal and of unequal lengths, by the arrays of a directory.
 -- Assumes nothing.
+use Rattle.std.specs.Prelude.{Option, Some, None, Result, Ok, Err}
 use Prim.Native.Nat.{ℕ, zero, suc, ◌+◌, ◌*◌, ◌/◌, ◌^◌, ◌≤◌, ◌<◌}
 use mathlib.Core.Bool.{Bool, true, false, cond}
 use mathlib.Core.List.{List, ◌∷◌}
@@ -10,27 +11,30 @@ use native.Mathlib.Nat.{mul-div_cancel_left, mul-le-mul_right, le_of_suc-le-suc,
 use lib.Dec.{T, ltb}
 use lib.ListN.{length, take, get_or, replicate, length-replicate, get_or-replicate}
 use borrow.Author.Tests.{lt-ltb, le-ltb}
-use Rattle.layout.specs.Answer.{refusal, is}
 use Rattle.layout.specs.Search.{some, sum}
 use Rattle.layout.specs.Entries.{Entry, directory, at, start, extent, non_empty, is_variable, kind_of}
 use Rattle.layout.specs.States.{State, states_of, tally_of}
 use Rattle.layout.specs.Records.{variable_lengths, lengths, record_at, record_length, record_refusal, record_place}
 use Rattle.layout.specs.Rules.{is_variable_at}
 use Rattle.layout.specs.Faults.{NonEmpty, Fixed, Variable}
+use Rattle.layout.specs.Answers.{reply_is, place_is}
+use Rattle.layout.specs.declared.Refusal.{Refusal}
+use Rattle.layout.specs.declared.Span.{Span}
 use Rattle.layout.proofs.Laws.{some-T}
 use Rattle.layout.proofs.Tests.{is_true, non_empty-T, variable_T}
 use Rattle.layout.proofs.Faults.{sum-replicate}
 use Rattle.layout.proofs.Sound.{Sound, sound, no_count, states_accept}
+use Rattle.dsd.specs.declared.Kind.{Kind}
+use Rattle.dsd.specs.declared.Role.TheVariants.{Other, Variable as VariableRole}
+use Rattle.dsd.specs.Held.{kind_number, role_of}
 use Rattle.directory.specs.Numbers.{sets_of}
 use Rattle.directory.specs.declared.Sets.{Sets}
-use Rattle.states.specs.declared.Found.TheVariants.{At, Nothing}
+use Rattle.states.specs.declared.Found.{Found}
 use Rattle.states.specs.declared.StatesSpan.{StatesSpan}
 use Rattle.states.specs.States.{cap, states_from, found}
-use Rattle.states.specs.Roles.{role_within}
 use Rattle.states.specs.Laid.{Fitting, Laid, Every, span_of}
-use Rattle.states.proofs.Sums.{within_in, within_below, within_above}
 use Rattle.states.proofs.Laws.{sum-take, found_exact}
-use Rattle.states.proofs.Arrays.{roles_at, counts-at, sizes-at, offsets-at, is-variable, role_kind}
+use Rattle.states.proofs.Arrays.{roles_at, counts-at, sizes-at, offsets-at, variable_kinds, other_kinds}
 use Rattle.states.proofs.Fits.{fitting, span_inside, span_accepted}
 use Rattle.records.specs.Open.{Open, place_in}
 
@@ -97,9 +101,9 @@ module _ (b : List ℕ) (sets : Sets) (opened : Open b sets) where
       unfolding lengths
       equal_lengths = rw equal
 
-      pub no_record : (j : ℕ) → get_or sets.counts i 0 ≤ j → refusal 18 0 i ≡ place_in b i j
-      unfolding place_in
-      no_record j h = sym (rw (equal_lengths, length-replicate e.count.magnitude e.record_size.magnitude, le-ltb j e.count.magnitude (omega (arith, count-is))))
+      pub no_record : (j : ℕ) → get_or sets.counts i 0 ≤ j → (t : Result Span Refusal) → t ≡ Err (record { number = 18; place = 0; entry = i }) → place_is t ≡ place_in b i j
+      unfolding reply_is place_in
+      no_record j h t q = rw q (sym (rw (equal_lengths, length-replicate e.count.magnitude e.record_size.magnitude, le-ltb j e.count.magnitude (omega (arith, count-is)))))
 
       module _ (j : ℕ) (there : j < get_or sets.counts i 0) where
         in_count : j < e.count.magnitude
@@ -129,8 +133,8 @@ module _ (b : List ℕ) (sets : Sets) (opened : Open b sets) where
             rw (length-is, place_is_lem)
             (omega (arith, mul-le-mul_right e.record_size.magnitude in_count, fixed, (whole.headed.inside i l (full_set e full)).1, whole.headed.long))
 
-        pub equal_record : is (record { place = get_or sets.offsets i 0 + j * (get_or sets.sizes i 0 / get_or sets.counts i 0); length = get_or sets.sizes i 0 / get_or sets.counts i 0 }) ≡ place_in b i j
-        unfolding place_in record_at record_length
+        pub equal_record : place_is (Ok (record { place = get_or sets.offsets i 0 + j * (get_or sets.sizes i 0 / get_or sets.counts i 0); length = get_or sets.sizes i 0 / get_or sets.counts i 0 })) ≡ place_in b i j
+        unfolding reply_is place_in record_at record_length
         equal_record =
             let m = in_count in
             sym (rw (
@@ -147,19 +151,17 @@ module _ (b : List ℕ) (sets : Sets) (opened : Open b sets) where
 -- ---- variable sets
 
 -- what a search that found the record, or nothing, says
-found_at : (ns : List ℕ) (j before len : ℕ) → sum ns ≤ cap → At before len ≡ found ns j → (ltb j (length ns) ≡ true) × ((before ≡ sum (take j ns)) × (len ≡ get_or ns j 0))
-found_at ns j before len h q = go (ltb j (length ns)) refl (q ∙ found_exact ns j h)
-  where
-    go : (t : Bool) → ltb j (length ns) ≡ t → At before len ≡ cond t (At (sum (take j ns)) (get_or ns j 0)) Nothing → (t ≡ true) × ((before ≡ sum (take j ns)) × (len ≡ get_or ns j 0))
-    go true e r = (refl, (cc, cc))
-    go false e r = (cc, (cc, cc))
+Says : List ℕ → ℕ → Option Found → Type 0
+Says ns j (Some f) = (ltb j (length ns) ≡ true) × (f.before ≡ sum (take j ns)) × (f.length ≡ get_or ns j 0)
+Says ns j None = ltb j (length ns) ≡ false
 
-found_nothing : (ns : List ℕ) (j : ℕ) → sum ns ≤ cap → Nothing ≡ found ns j → ltb j (length ns) ≡ false
-found_nothing ns j h q = go (ltb j (length ns)) refl (q ∙ found_exact ns j h)
+says : (ns : List ℕ) (j : ℕ) → sum ns ≤ cap → (f : Option Found) → f ≡ found ns j → Says ns j f
+unfolding Says
+says ns j h f q = rw (q ∙ found_exact ns j h) (go (ltb j (length ns)) refl)
   where
-    go : (t : Bool) → ltb j (length ns) ≡ t → Nothing ≡ cond t (At (sum (take j ns)) (get_or ns j 0)) Nothing → t ≡ false
-    go true e r = cc
-    go false e r = refl
+    go : (t : Bool) → ltb j (length ns) ≡ t → Says ns j (cond t (Some (record { before = sum (take j ns); length = get_or ns j 0 })) None)
+    go true q = (q, refl, refl)
+    go false q = q
 
 module _ (b : List ℕ) (sets : Sets) (opened : Open b sets) (i : ℕ) (inside : i < sets.entries) (unequal : is_variable (at (directory b) i) ≡ true) where
   abbrev pub ns : List ℕ
@@ -205,51 +207,50 @@ module _ (b : List ℕ) (sets : Sets) (opened : Open b sets) (i : ℕ) (inside :
       pub same_lengths : variable_lengths (states_from b s.place s.count) kind ≡ ns
       same_lengths = rw (here, same_states, its-kind)
 
-      few : sum ns ≤ cap
-      few = omega (arith, in_product, (whole b sets opened).headed.long)
+      small-sum : sum ns ≤ cap
+      small-sum = omega (arith, in_product, (whole b sets opened).headed.long)
 
-      pub unequal_record : (before len : ℕ) → At before len ≡ found (variable_lengths (states_from b s.place s.count) kind) j
-          → is (record { place = get_or sets.offsets i 0 + before; length = len }) ≡ place_in b i j
-      unfolding place_in record_at record_length
-      unequal_record before len h =
-          let r = found_at ns j before len few (rw same_lengths at h) in
-          sym (rw (unequal_lengths, r.0, place_is_lem b sets opened i inside, r.1.0, r.1.1))
+      module _ (r : Option Found) (searched : r ≡ found (variable_lengths (states_from b s.place s.count) kind) j) where
+        what : Says ns j r
+        what = says ns j small-sum r (rw same_lengths at searched)
 
-      pub unequal_inside : (before len : ℕ) → At before len ≡ found (variable_lengths (states_from b s.place s.count) kind) j → get_or sets.offsets i 0 + before ≤ 2147483647
-      unequal_inside before len h =
-          let r = found_at ns j before len few (rw same_lengths at h) in
-          omega (arith, place_is_lem b sets opened i inside, r.1.0, sum-take j ns, in_product, (whole b sets opened).headed.long)
+        module _ (f : Found) (there : r ≡ Some f) where
+          it : (ltb j (length ns) ≡ true) × (f.before ≡ sum (take j ns)) × (f.length ≡ get_or ns j 0)
+          unfolding Says
+          it = subst (Says ns j) there what
 
-      pub no_unequal : Nothing ≡ found (variable_lengths (states_from b s.place s.count) kind) j → refusal 18 0 i ≡ place_in b i j
-      unfolding place_in
-      no_unequal h = sym (rw (unequal_lengths, found_nothing ns j few (rw same_lengths at h)))
+          pub unequal_record : place_is (Ok (record { place = get_or sets.offsets i 0 + f.before; length = f.length })) ≡ place_in b i j
+          unfolding reply_is place_in record_at record_length
+          unequal_record = sym (rw (unequal_lengths, it.0, place_is_lem b sets opened i inside, it.1, it.2))
+
+          pub unequal_inside : get_or sets.offsets i 0 + f.before ≤ 2147483647
+          unequal_inside = omega (arith, place_is_lem b sets opened i inside, it.1, sum-take j ns, in_product, (whole b sets opened).headed.long)
+
+        pub no_unequal : r ≡ None → (t : Result Span Refusal) → t ≡ Err (record { number = 18; place = 0; entry = i }) → place_is t ≡ place_in b i j
+        unfolding Says reply_is place_in
+        no_unequal none t q = rw q (sym (rw (unequal_lengths, subst (Says ns j) none what)))
 
 -- ---- which kind of set an entry is, by its role
 
 module _ (b : List ℕ) (sets : Sets) (opened : Open b sets) (i : ℕ) (inside : i < sets.entries) where
-  role_is : role_within sets.roles 1 4 i ≡ is_variable (at (directory b) i)
-  unfolding is_variable_at
-  role_is = rw opened.held (is-variable (directory b) i (omega (arith, entries-held b sets opened)))
+  role_is : get_or sets.roles i Other ≡ role_of (at (directory b) i)
+  role_is = rw opened.held (roles_at (directory b) i (omega (arith, entries-held b sets opened)))
 
-  pub not_below : get_or sets.roles i 0 < 1 → is_variable (at (directory b) i) ≡ false
-  unfolding role_within
-  not_below h = sym role_is ∙ within_below 1 4 (get_or sets.roles i 0) h
+  pub role_varies : (kind : Kind) → get_or sets.roles i Other ≡ VariableRole kind → (is_variable (at (directory b) i) ≡ true) × (kind_number kind ≡ kind_of (at (directory b) i))
+  role_varies kind h = variable_kinds (at (directory b) i) kind (sym role_is ∙ h)
 
-  pub not_above : 4 < get_or sets.roles i 0 → is_variable (at (directory b) i) ≡ false
-  unfolding role_within
-  not_above h = sym role_is ∙ within_above 1 4 (get_or sets.roles i 0) h
-
-  pub is_between : 1 ≤ get_or sets.roles i 0 → get_or sets.roles i 0 ≤ 4 → (is_variable (at (directory b) i) ≡ true) × (get_or sets.roles i 0 ≡ kind_of (at (directory b) i))
-  unfolding role_within
-  is_between l h =
-      let v = sym role_is ∙ within_in 1 4 (get_or sets.roles i 0) l h in
-      (v, rw opened.held (roles_at (directory b) i (omega (arith, entries-held b sets opened)) ∙ role_kind (at (directory b) i) v))
+  pub role_fixed : ((kind : Kind) → get_or sets.roles i Other ≡ VariableRole kind → ⊥) → is_variable (at (directory b) i) ≡ false
+  role_fixed n = other_kinds (at (directory b) i) (λ kind h. n kind (role_is ∙ h))
 
   -- an entry of the directory: refusal 18, or the record
   pub in_entries : (j : ℕ) → record_place b i j ≡ place_in b i j
   unfolding record_place record_refusal place_in
   in_entries j = rw (opened.accepts, lt-ltb i (length (directory b)) (omega (arith, entries-held b sets opened)))
 
-pub past_entries : (b : List ℕ) (sets : Sets) → Open b sets → (i j : ℕ) → sets.entries ≤ i → refusal 17 0 128 ≡ record_place b i j
-unfolding record_place record_refusal
-past_entries b sets opened i j h = sym (rw (opened.accepts, le-ltb i (length (directory b)) (omega (arith, entries-held b sets opened))))
+pub past_entries : (b : List ℕ) (sets : Sets) → Open b sets → (i j : ℕ) → sets.entries ≤ i
+    → (t : Result Span Refusal) → t ≡ Err (record { number = 17; place = 0; entry = 128 }) → place_is t ≡ record_place b i j
+unfolding reply_is record_place record_refusal
+past_entries b sets opened i j h t e = rw e (sym (rw (opened.accepts, le-ltb i (length (directory b)) (omega (arith, entries-held b sets opened)))))
+
+-- what the answers need of all this, where they are not given
+pub ruleset told = (entries-few, no_record, equal_record, record-inside, unequal_record, unequal_inside, role_fixed, in_entries, past_entries)

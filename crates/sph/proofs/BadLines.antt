@@ -4,6 +4,7 @@ use Prim.Native.Nat.{ℕ, zero, suc, ◌+◌, ◌-◌, ◌≤◌, ◌<◌}
 use mathlib.Core.Bool.{Bool, true, false, cond, ◌&&◌, not}
 use mathlib.Core.List.{List}
 use mathlib.Core.Logic.{⊎_elim}
+use Rattle.std.specs.Prelude.{Some, None}
 use mathlib.Core.Path.{◌≡◌, refl, ◌∙◌}
 use native.Mathlib.Omega.{arith}
 use native.Mathlib.Nat.{add-zero, sub-zero}
@@ -30,23 +31,24 @@ pub record GoodLine (b : List ℕ) (from to r : ℕ) : Type 0 where
   pub ten : byte_at b (r - 1) ≡ 10
   pub before : (k : ℕ) → from ≤ k → k + 1 < r → byte_at b k ≡ 10 → ⊥
 
-module _ (b : List ℕ) (from to r : ℕ) (h : from < to) (d : Ended line b from from to r) where
-  pub line-bad : r ≡ from → line (part b from (to - from)) ≡ false
+module _ (b : List ℕ) (from to : ℕ) where
+  pub line-bad : Ended line b from to None → line (part b from (to - from)) ≡ false
   unfolding end_if
-  line-bad e = go (line (part b from (to - from))) refl d.is
+  line-bad d = go (line (part b from (to - from))) d.is
     where
-      go : (u : Bool) → line (part b from (to - from)) ≡ u → r ≡ cond u (find (ends_line b) from (to - from) + 1) from → line (part b from (to - from)) ≡ false
-      go true q w = let k = find_bounds (ends_line b) from (to - from) in absurd (omega (arith, k.0))
-      go false q w = q
+      go : (u : Bool) → None ≡ cond u (Some (find (ends_line b) from (to - from) + 1)) None → u ≡ false
+      go true w = cc
+      go false w = refl
 
-  pub line-good : (r ≡ from → ⊥) → GoodLine b from to r
+  pub line-good : (r : ℕ) → Ended line b from to (Some r) → GoodLine b from to r
   unfolding end_if ends_line
-  line-good n = go (line (part b from (to - from))) refl d.is
+  line-good r d = go (line (part b from (to - from))) refl d.is
     where
-      go : (u : Bool) → line (part b from (to - from)) ≡ u → r ≡ cond u (find (ends_line b) from (to - from) + 1) from → GoodLine b from to r
+      go : (u : Bool) → line (part b from (to - from)) ≡ u → Some r ≡ cond u (Some (find (ends_line b) from (to - from) + 1)) None → GoodLine b from to r
       go true q w =
           let k = find_bounds (ends_line b) from (to - from) in
           let m = d.inside in
+          let n : r ≡ find (ends_line b) from (to - from) + 1 = cc in
           let e : r - 1 ≡ find (ends_line b) from (to - from) = omega arith in
           record {
             good = q;
@@ -55,7 +57,7 @@ module _ (b : List ℕ) (from to r : ℕ) (h : from < to) (d : Ended line b from
             ten = rw e (eqb→eq (byte_at b (find (ends_line b) from (to - from))) 10 (find_at (ends_line b) from (to - from) (omega arith)));
             before = λ i v u. eqb-false (byte_at b i) 10 (find-before (ends_line b) from (to - from) i v (omega arith));
           }
-      go false q w = absurd (n w)
+      go false q w = cc
 
 -- ---- the search for a bad line, at each byte of the lines in from..to
 

@@ -4,6 +4,7 @@ use Prim.Native.Nat.{ℕ, zero, suc, ◌+◌, ◌-◌, ◌≤◌, ◌<◌}
 use mathlib.Core.Bool.{Bool, true, false, cond, ◌&&◌, not, or-false}
 use mathlib.Core.List.{List, [], ◌∷◌}
 use mathlib.Core.Logic.{⊎_elim}
+use Rattle.std.specs.Prelude.{Option, Some, None}
 use mathlib.Core.Path.{◌≡◌, refl, sym, ◌∙◌}
 use native.Mathlib.Omega.{arith}
 use native.Mathlib.Numerals.{add-one}
@@ -96,38 +97,38 @@ module _ (x : ℕ) (xs : List ℕ) where
   unfolding keyword in_keyword
   keyword_stop e = rw e (cond-and (eqb x 61) (value xs))
 
-module _ (b : List ℕ) (start to : ℕ) where
+module _ (b : List ℕ) (to : ℕ) where
   -- ---- one byte
 
   module _ (test : List ℕ → Bool) (i : ℕ) where
     -- no byte is left
-    end_none : to ≤ i → test [] ≡ false → end_if test b start i to ≡ start
+    end_none : to ≤ i → test [] ≡ false → end_if test b i to ≡ None
     unfolding end_if
     end_none h e = rw (part_end b i to h, e)
 
-    same_none : (rest : List ℕ → Bool) → to ≤ i → test [] ≡ rest [] → end_if test b start i to ≡ end_if rest b start i to
+    same_none : (rest : List ℕ → Bool) → to ≤ i → test [] ≡ rest [] → end_if test b i to ≡ end_if rest b i to
     unfolding end_if
     same_none rest h e = rw (part_end b i to h, e)
 
     module _ (h : i < to) (l : to ≤ length b) where
       same_here : (rest : List ℕ → Bool)
           → test (get_or b i 0 ∷ part b (i + 1) (to - (i + 1))) ≡ rest (get_or b i 0 ∷ part b (i + 1) (to - (i + 1)))
-          → end_if test b start i to ≡ end_if rest b start i to
+          → end_if test b i to ≡ end_if rest b i to
       unfolding end_if
       same_here rest e = rw (part-cons b i to h l, e)
 
       -- the byte is not byte 10: the end is where it is from the next byte on
       end_step : (rest : List ℕ → Bool) → (get_or b i 0 ≡ 10 → ⊥)
           → test (get_or b i 0 ∷ part b (i + 1) (to - (i + 1))) ≡ rest (part b (i + 1) (to - (i + 1)))
-          → end_if test b start i to ≡ end_if rest b start (i + 1) to
+          → end_if test b i to ≡ end_if rest b (i + 1) to
       unfolding end_if ends_line byte_at
       end_step rest n e = rw (part-cons b i to h l, e, find_step (ends_line b) i to h, ne_eqb (get_or b i 0) 10 n)
 
-      end_bad : test (get_or b i 0 ∷ part b (i + 1) (to - (i + 1))) ≡ false → end_if test b start i to ≡ start
+      end_bad : test (get_or b i 0 ∷ part b (i + 1) (to - (i + 1))) ≡ false → end_if test b i to ≡ None
       unfolding end_if
       end_bad e = rw (part-cons b i to h l, e)
 
-      end_here : get_or b i 0 ≡ 10 → test (get_or b i 0 ∷ part b (i + 1) (to - (i + 1))) ≡ true → end_if test b start i to ≡ i + 1
+      end_here : get_or b i 0 ≡ 10 → test (get_or b i 0 ∷ part b (i + 1) (to - (i + 1))) ≡ true → end_if test b i to ≡ Some (i + 1)
       unfolding end_if ends_line byte_at
       end_here n e = rw (part-cons b i to h l, e, find_step (ends_line b) i to h, eq-eqb (get_or b i 0) 10 n)
 
@@ -136,7 +137,7 @@ module _ (b : List ℕ) (start to : ℕ) where
   module _ (t : ℕ → Bool) (test rest : List ℕ → Bool) (ten : t 10 ≡ false) (none : test [] ≡ rest [])
       (pass : (x : ℕ) (xs : List ℕ) → t x ≡ true → test (x ∷ xs) ≡ test xs)
       (stop : (x : ℕ) (xs : List ℕ) → t x ≡ false → test (x ∷ xs) ≡ rest (x ∷ xs)) (l : to ≤ length b) where
-    run_to : (n i : ℕ) → i + n ≡ to → end_if test b start i to ≡ end_if rest b start (find (fails t b) i n) to
+    run_to : (n i : ℕ) → i + n ≡ to → end_if test b i to ≡ end_if rest b (find (fails t b) i n) to
     unfolding find fails byte_at
     run_to zero i q = same_none test i rest (omega arith) none
     run_to (suc n) i q = go (t (get_or b i 0)) refl (run_to n (suc i) (omega arith))
@@ -144,91 +145,91 @@ module _ (b : List ℕ) (start to : ℕ) where
         h : i < to
         h = omega arith
 
-        go : (u : Bool) → t (get_or b i 0) ≡ u → end_if test b start (suc i) to ≡ end_if rest b start (find (fails t b) (suc i) n) to
-            → end_if test b start i to ≡ end_if rest b start (cond (not u) i (find (fails t b) (suc i) n)) to
+        go : (u : Bool) → t (get_or b i 0) ≡ u → end_if test b (suc i) to ≡ end_if rest b (find (fails t b) (suc i) n) to
+            → end_if test b i to ≡ end_if rest b (cond (not u) i (find (fails t b) (suc i) n)) to
         go true e below = end_step test i h l test (passes_not t (get_or b i 0) 10 e ten) (pass (get_or b i 0) (part b (i + 1) (to - (i + 1))) e) ∙ rw (add-one i) below
         go false e below = same_here test i h l rest (stop (get_or b i 0) (part b (i + 1) (to - (i + 1))) e)
 
   -- ---- what the code answers
 
-  bad_end : (test : List ℕ → Bool) (at : ℕ) → start ≤ to → end_if test b start at to ≡ start → Ended test b start at to start
-  bad_end test at h e = record { is = sym e; inside = h }
+  bad_end : (test : List ℕ → Bool) (at : ℕ) → end_if test b at to ≡ None → Ended test b at to None
+  bad_end test at e = record { is = sym e; inside = tt }
 
-  same_end : (test rest : List ℕ → Bool) (at i : ℕ) {r : ℕ} → end_if test b start at to ≡ end_if rest b start i to → Ended rest b start i to r → Ended test b start at to r
+  same_end : (test rest : List ℕ → Bool) (at i : ℕ) {r : Option ℕ} → end_if test b at to ≡ end_if rest b i to → Ended rest b i to r → Ended test b at to r
   same_end test rest at i e d = record { is = d.is ∙ sym e; inside = d.inside }
 
   -- only byte 10 follows; r says whether it stands there
-  pub last_none : (at : ℕ) → start ≤ at → at ≤ to → to ≤ length b → (r : Bool) → r ≡ (ltb at to && ends_line b at) → r ≡ false → Ended ended b start at to start
+  pub last_none : (at : ℕ) → at ≤ to → to ≤ length b → (r : Bool) → r ≡ (ltb at to && ends_line b at) → r ≡ false → Ended ended b at to None
   unfolding ended
-  last_none at k h l r e n =
-      bad_end ended at (omega arith)
+  last_none at h l r e n =
+      bad_end ended at
       (⊎_elim (λ m. end_bad ended at m l (ends_test b at to m ∙ sym e ∙ n)) (λ m. end_none ended at m refl) (lt-or-le at to))
 
   -- byte 10 stands there
-  module _ (at : ℕ) (k : start ≤ at) (h : at < to) (l : to ≤ length b) where
-    at_once : (test : List ℕ → Bool) → get_or b at 0 ≡ 10 → test (get_or b at 0 ∷ part b (at + 1) (to - (at + 1))) ≡ true → Ended test b start at to (at + 1)
+  module _ (at : ℕ) (h : at < to) (l : to ≤ length b) where
+    at_once : (test : List ℕ → Bool) → get_or b at 0 ≡ 10 → test (get_or b at 0 ∷ part b (at + 1) (to - (at + 1))) ≡ true → Ended test b at to (Some (at + 1))
     at_once test e g = record { is = sym (end_here test at h l e g); inside = omega arith }
 
-    pub last_here : get_or b at 0 ≡ 10 → Ended ended b start at to (at + 1)
+    pub last_here : get_or b at 0 ≡ 10 → Ended ended b at to (Some (at + 1))
     unfolding ended
     last_here e = at_once ended e (eq-eqb (get_or b at 0) 10 e)
 
-    pub blanks_here : get_or b at 0 ≡ 10 → Ended blanks b start at to (at + 1)
+    pub blanks_here : get_or b at 0 ≡ 10 → Ended blanks b at to (Some (at + 1))
     unfolding blanks
     blanks_here e = at_once blanks e (rw (eq-eqb (get_or b at 0) 10 e))
 
-    pub unquoted_here : get_or b at 0 ≡ 10 → Ended unquoted b start at to (at + 1)
+    pub unquoted_here : get_or b at 0 ≡ 10 → Ended unquoted b at to (Some (at + 1))
     unfolding unquoted
     unquoted_here e = at_once unquoted e (rw (eq-eqb (get_or b at 0) 10 e))
 
   -- a run up to e
   module _ (at e : ℕ) (h : at ≤ to) (l : to ≤ length b) where
-    pub blanks_run : e ≡ find (not_blank b) at (to - at) → {r : ℕ} → Ended ended b start e to r → Ended blanks b start at to r
+    pub blanks_run : e ≡ find (not_blank b) at (to - at) → {r : Option ℕ} → Ended ended b e to r → Ended blanks b at to r
     unfolding not_blank fails blanks ended
     blanks_run q d =
         same_end blanks ended at e (run_to (λ x. eqb x 32) blanks ended refl refl blanks_pass blanks_stop l (to - at) at (omega arith) ∙ rw (← q)) d
 
-    pub unquoted_run : e ≡ find (fails (fits plain) b) at (to - at) → {r : ℕ} → Ended ended b start e to r → Ended unquoted b start at to r
+    pub unquoted_run : e ≡ find (fails (fits plain) b) at (to - at) → {r : Option ℕ} → Ended ended b e to r → Ended unquoted b at to r
     unfolding unquoted ended
     unquoted_run q d =
         same_end unquoted ended at e (run_to (fits plain) unquoted ended plain_10 refl unquoted_pass unquoted_stop l (to - at) at (omega arith) ∙ rw (← q)) d
 
-    pub quoted_run : e ≡ find (fails (fits plain) b) at (to - at) → end_if quoted b start at to ≡ end_if (after 34 ended) b start e to
+    pub quoted_run : e ≡ find (fails (fits plain) b) at (to - at) → end_if quoted b at to ≡ end_if (after 34 ended) b e to
     unfolding quoted
     quoted_run q = run_to (fits plain) quoted (after 34 ended) plain_10 refl quoted_pass quoted_stop l (to - at) at (omega arith) ∙ rw (← q)
 
-    pub keyword_run : e ≡ find (fails in_keyword b) at (to - at) → end_if keyword b start at to ≡ end_if (after 61 value) b start e to
+    pub keyword_run : e ≡ find (fails in_keyword b) at (to - at) → end_if keyword b at to ≡ end_if (after 61 value) b e to
     unfolding keyword
     keyword_run q = run_to in_keyword keyword (after 61 value) keyword_10 refl keyword_pass keyword_stop l (to - at) at (omega arith) ∙ rw (← q)
 
   -- behind a run: the byte y, and then the rest
-  module _ (test rest : List ℕ → Bool) (y at e : ℕ) (so : end_if test b start at to ≡ end_if (after y rest) b start e to) (k : start ≤ to) where
-    pub after_none : to ≤ e → Ended test b start at to start
-    after_none h = bad_end test at k (so ∙ end_none (after y rest) e h refl)
+  module _ (test rest : List ℕ → Bool) (y at e : ℕ) (so : end_if test b at to ≡ end_if (after y rest) b e to) where
+    pub after_none : to ≤ e → Ended test b at to None
+    after_none h = bad_end test at (so ∙ end_none (after y rest) e h refl)
 
     module _ (h : e < to) (l : to ≤ length b) where
-      pub after-other : (get_or b e 0 ≡ y → ⊥) → Ended test b start at to start
-      after-other n = bad_end test at k (so ∙ end_bad (after y rest) e h l (rw (ne_eqb (get_or b e 0) y n)))
+      pub after-other : (get_or b e 0 ≡ y → ⊥) → Ended test b at to None
+      after-other n = bad_end test at (so ∙ end_bad (after y rest) e h l (rw (ne_eqb (get_or b e 0) y n)))
 
-      pub after_it : get_or b e 0 ≡ y → (y ≡ 10 → ⊥) → {r : ℕ} → Ended rest b start (e + 1) to r → Ended test b start at to r
+      pub after_it : get_or b e 0 ≡ y → (y ≡ 10 → ⊥) → {r : Option ℕ} → Ended rest b (e + 1) to r → Ended test b at to r
       after_it n m d = same_end test rest at (e + 1) (so ∙ end_step (after y rest) e h l rest (λ w. m (sym n ∙ w)) (rw (eq-eqb (get_or b e 0) y n))) d
 
-  pub value_none : (at : ℕ) → start ≤ to → to ≤ at → Ended value b start at to start
+  pub value_none : (at : ℕ) → to ≤ at → Ended value b at to None
   unfolding value
-  value_none at k h = bad_end value at k (end_none value at h refl)
+  value_none at h = bad_end value at (end_none value at h refl)
 
-  module _ (at : ℕ) (k : start ≤ to) (h : at < to) (l : to ≤ length b) where
-    pub value-quoted : get_or b at 0 ≡ 34 → {r : ℕ} → Ended quoted b start (at + 1) to r → Ended value b start at to r
+  module _ (at : ℕ) (h : at < to) (l : to ≤ length b) where
+    pub value-quoted : get_or b at 0 ≡ 34 → {r : Option ℕ} → Ended quoted b (at + 1) to r → Ended value b at to r
     unfolding value
     value-quoted e d = same_end value quoted at (at + 1) (end_step value at h l quoted (λ w. omega arith) (rw (eq-eqb (get_or b at 0) 34 e))) d
 
     -- a value that begins with no quote; u says whether its first byte is plain
     module _ (n : get_or b at 0 ≡ 34 → ⊥) (u : Bool) (e : u ≡ fits plain (get_or b at 0)) where
-      pub value-bad : u ≡ false → Ended value b start at to start
+      pub value-bad : u ≡ false → Ended value b at to None
       unfolding value
-      value-bad w = bad_end value at k (end_bad value at h l (rw (ne_eqb (get_or b at 0) 34 n, ← e, w)))
+      value-bad w = bad_end value at (end_bad value at h l (rw (ne_eqb (get_or b at 0) 34 n, ← e, w)))
 
-      pub value-unquoted : u ≡ true → {r : ℕ} → Ended unquoted b start (at + 1) to r → Ended value b start at to r
+      pub value-unquoted : u ≡ true → {r : Option ℕ} → Ended unquoted b (at + 1) to r → Ended value b at to r
       unfolding value
       value-unquoted w d =
           same_end value unquoted at (at + 1)
@@ -238,23 +239,23 @@ module _ (b : List ℕ) (start to : ℕ) where
 -- ---- the line
 
 module _ (b : List ℕ) (at to : ℕ) (h : at < to) (l : to ≤ length b) where
-  pub line-blanks : get_or b at 0 ≡ 32 → {r : ℕ} → Ended blanks b at (at + 1) to r → Ended line b at at to r
+  pub line-blanks : get_or b at 0 ≡ 32 → {r : Option ℕ} → Ended blanks b (at + 1) to r → Ended line b at to r
   unfolding line
-  line-blanks e d = same_end b at to line blanks at (at + 1) (end_step b at to line at h l blanks (λ w. omega arith) (rw (eq-eqb (get_or b at 0) 32 e))) d
+  line-blanks e d = same_end b to line blanks at (at + 1) (end_step b to line at h l blanks (λ w. omega arith) (rw (eq-eqb (get_or b at 0) 32 e))) d
 
-  pub line_low : (get_or b at 0 ≡ 32 → ⊥) → get_or b at 0 < 65 → Ended line b at at to at
+  pub line_low : (get_or b at 0 ≡ 32 → ⊥) → get_or b at 0 < 65 → Ended line b at to None
   unfolding line
-  line_low n e = bad_end b at to line at (omega arith) (end_bad b at to line at h l (rw (ne_eqb (get_or b at 0) 32 n, lt-leb 65 (get_or b at 0) e)))
+  line_low n e = bad_end b to line at (end_bad b to line at h l (rw (ne_eqb (get_or b at 0) 32 n, lt-leb 65 (get_or b at 0) e)))
 
-  pub line-high : (get_or b at 0 ≡ 32 → ⊥) → 90 < get_or b at 0 → Ended line b at at to at
+  pub line-high : (get_or b at 0 ≡ 32 → ⊥) → 90 < get_or b at 0 → Ended line b at to None
   unfolding line
   line-high n e =
       let k : 65 ≤ get_or b at 0 = omega arith in
-      bad_end b at to line at (omega arith) (end_bad b at to line at h l (rw (ne_eqb (get_or b at 0) 32 n, le-leb 65 (get_or b at 0) k, lt-leb (get_or b at 0) 90 e)))
+      bad_end b to line at (end_bad b to line at h l (rw (ne_eqb (get_or b at 0) 32 n, le-leb 65 (get_or b at 0) k, lt-leb (get_or b at 0) 90 e)))
 
-  pub line-keyword : (get_or b at 0 ≡ 32 → ⊥) → 65 ≤ get_or b at 0 → get_or b at 0 ≤ 90 → {r : ℕ} → Ended keyword b at (at + 1) to r → Ended line b at at to r
+  pub line-keyword : (get_or b at 0 ≡ 32 → ⊥) → 65 ≤ get_or b at 0 → get_or b at 0 ≤ 90 → {r : Option ℕ} → Ended keyword b (at + 1) to r → Ended line b at to r
   unfolding line
   line-keyword n e f d =
-      same_end b at to line keyword at (at + 1)
-      (end_step b at to line at h l keyword (λ w. omega arith) (rw (ne_eqb (get_or b at 0) 32 n, le-leb 65 (get_or b at 0) e, le-leb (get_or b at 0) 90 f)))
+      same_end b to line keyword at (at + 1)
+      (end_step b to line at h l keyword (λ w. omega arith) (rw (ne_eqb (get_or b at 0) 32 n, le-leb 65 (get_or b at 0) e, le-leb (get_or b at 0) 90 f)))
       d

@@ -1,6 +1,6 @@
 -- What the tests of SPH lines answer (document 01, "Header text", last paragraph): where a good line ends, and where the first bad one begins.
 -- Assumes nothing.
-use Rattle.std.specs.Prelude.{ℕ, ◌+◌, ◌-◌, ◌≤◌, Bool, cond, ◌&&◌, ◌||◌, not, List, ◌≡◌, eqb, drop}
+use Rattle.std.specs.Prelude.{ℕ, ◌+◌, ◌-◌, ◌≤◌, Bool, cond, ◌&&◌, ◌||◌, not, List, ◌≡◌, eqb, drop, Option, Some, None, IfSome}
 use Rattle.layout.specs.Bytes.{part, byte_at, within}
 use Rattle.layout.specs.Search.{find}
 use Rattle.layout.specs.Sph.{line, line_begins}
@@ -13,14 +13,14 @@ ends_line b i = eqb (byte_at b i) 10
 unfoldable pub in_keyword : ℕ → Bool
 in_keyword x = within 65 90 x || (within 48 57 x || eqb x 95)
 
--- the place behind the first byte 10 from `at` on if what stands in at..to passes the test; else `start`
-unfoldable pub end_if : (List ℕ → Bool) → List ℕ → ℕ → ℕ → ℕ → ℕ
-end_if test b start at to = cond (test (part b at (to - at))) (find (ends_line b) at (to - at) + 1) start
+-- the place behind the first byte 10 from `at` on, if what stands in at..to passes the test
+unfoldable pub end_if : (List ℕ → Bool) → List ℕ → ℕ → ℕ → Option ℕ
+end_if test b at to = cond (test (part b at (to - at))) (Some (find (ends_line b) at (to - at) + 1)) None
 
--- r is that place, and none behind `to`
-pub record Ended (test : List ℕ → Bool) (b : List ℕ) (start at to r : ℕ) : Type 0 where
-  pub is : r ≡ end_if test b start at to
-  pub inside : r ≤ to
+-- r is that place, and not behind `to`
+pub record Ended (test : List ℕ → Bool) (b : List ℕ) (at to : ℕ) (r : Option ℕ) : Type 0 where
+  pub is : r ≡ end_if test b at to
+  pub inside : IfSome r (λ end. end ≤ to)
 
 -- a line begins at the place i of some lines, and it is bad or does not end
 unfoldable pub bad_line_at : List ℕ → ℕ → Bool

@@ -6,10 +6,9 @@ use mathlib.Core.List.{List}
 use mathlib.Core.Path.{◌≡◌, refl, sym, ◌∙◌, ap}
 use native.Mathlib.Omega.{arith}
 use native.Mathlib.Nat.{zero-add}
-use lib.Dec.{leb, eqb}
+use lib.Dec.{eqb}
 use lib.ListN.{length, get_or}
-use borrow.Author.Tests.{le-leb, lt-leb}
-use Rattle.layout.specs.Answer.{need, where'}
+use Rattle.layout.specs.Answer.{accepted, need, where'}
 use Rattle.layout.specs.Search.{some, count, only}
 use Rattle.layout.specs.Entries.{Entry, at, start, extent, kind_of, is_variable, is_states}
 use Rattle.layout.specs.States.{is_states_at, states_entry, of_kind}
@@ -17,61 +16,80 @@ use Rattle.layout.specs.Rules.{is_variable_at, is_filled, rule16_at, rule16}
 use Rattle.layout.specs.Answers.{count_of}
 use Rattle.layout.proofs.Laws.{some_same, first_found, not-not}
 use Rattle.layout.proofs.Only.{only_same}
-use Rattle.layout.proofs.Tests.{variable_T, variable_kind}
+use Rattle.layout.proofs.Tests.{variable_T}
 use Rattle.layout.proofs.Padded.{padded-at}
-use Rattle.dsd.specs.Held.{role_of}
+use Rattle.dsd.specs.declared.Kind.{Kind}
+use Rattle.dsd.specs.declared.Role.TheVariants.{Other, Variable, States}
+use Rattle.dsd.specs.Held.{kind_number, of_variable, of_states, role_of}
+use Rattle.dsd.proofs.Names.{named}
 use Rattle.directory.specs.Numbers.{sets_of}
 use Rattle.states.specs.declared.Tally.{Tally}
 use Rattle.states.specs.States.{tally_from}
-use Rattle.states.specs.Roles.{has_variable, role_within, only_states, unfilled, unfilled_at, rule16_by}
+use Rattle.states.specs.Roles.{has_variable, varies_at, describes_at, only_states, unfilled, unfilled_at, rule16_by}
 
 -- ---- roles
 
-pub role_kind : (e : Entry) → is_variable e ≡ true → role_of e ≡ kind_of e
+role_kind : (e : Entry) → is_variable e ≡ true → (k : Kind) × (role_of e ≡ Variable k) × (kind_number k ≡ kind_of e)
 unfolding role_of
-role_kind e h = rw h
+role_kind e h = let k = named e h in (k.0, rw (h, k.1), k.2)
 
-role_states : (e : Entry) → is_variable e ≡ false → role_of e ≡ cond (is_states e) 5 0
+role_other : (e : Entry) → is_variable e ≡ false → role_of e ≡ cond (is_states e) States Other
 unfolding role_of
-role_states e h = rw h
+role_other e h = rw h
 
 -- a variable set is of type M, and what describes states of type A
 not_both : (e : Entry) → is_variable e ≡ true → is_states e ≡ false
 unfolding is_states
 not_both e h = let q : e.type ≡ 77 = ((variable_T e).0 (rw h tt)).1.1.0 in rw q
 
-variable_role : (e : Entry) → (leb 1 (role_of e) && leb (role_of e) 4) ≡ is_variable e
+variable_role : (e : Entry) → of_variable (role_of e) ≡ is_variable e
+unfolding of_variable
 variable_role e = go (is_variable e) refl
   where
-    go : (v : Bool) → is_variable e ≡ v → (leb 1 (role_of e) && leb (role_of e) 4) ≡ v
-    go true h =
-        let k = variable_kind e ((variable_T e).0 (rw h tt)) in
-        rw (role_kind e h, le-leb 1 (kind_of e) k.0, le-leb (kind_of e) 4 k.1)
-    go false h = rw (role_states e h) (other (is_states e))
-      where
-        other : (s : Bool) → (leb 1 (cond s 5 0) && leb (cond s 5 0) 4) ≡ false
-        other true = refl
-        other false = refl
+    other : (s : Bool) → of_variable (cond s States Other) ≡ false
+    other true = refl
+    other false = refl
 
-states_role : (e : Entry) → (leb 5 (role_of e) && leb (role_of e) 5) ≡ is_states e
+    go : (v : Bool) → is_variable e ≡ v → of_variable (role_of e) ≡ v
+    go true h = rw (role_kind e h).1
+    go false h = rw (role_other e h) (other (is_states e))
+
+states_role : (e : Entry) → of_states (role_of e) ≡ is_states e
+unfolding of_states
 states_role e = go (is_variable e) refl
   where
-    go : (v : Bool) → is_variable e ≡ v → (leb 5 (role_of e) && leb (role_of e) 5) ≡ is_states e
-    go true h =
-        let k : kind_of e < 5 = omega (arith, (variable_kind e ((variable_T e).0 (rw h tt))).1) in
-        rw (role_kind e h, lt-leb 5 (kind_of e) k, not_both e h)
-    go false h = rw (role_states e h) (other (is_states e))
-      where
-        other : (s : Bool) → (leb 5 (cond s 5 0) && leb (cond s 5 0) 5) ≡ s
-        other true = refl
-        other false = refl
+    other : (s : Bool) → of_states (cond s States Other) ≡ s
+    other true = refl
+    other false = refl
+
+    go : (v : Bool) → is_variable e ≡ v → of_states (role_of e) ≡ is_states e
+    go true h = rw ((role_kind e h).1, not_both e h)
+    go false h = rw (role_other e h) (other (is_states e))
+
+-- a role tells the kind, and whether there is one
+variable_injective : (k l : Kind) → Variable k ≡ Variable l → k ≡ l
+variable_injective k l e = cc
+
+pub variable_kinds : (e : Entry) (kind : Kind) → role_of e ≡ Variable kind → (is_variable e ≡ true) × (kind_number kind ≡ kind_of e)
+unfolding of_variable
+variable_kinds e kind q =
+    let v : is_variable e ≡ true = sym (variable_role e) ∙ ap of_variable q in
+    let k = role_kind e v in
+    (v, ap kind_number (variable_injective kind k.0 (sym q ∙ k.1)) ∙ k.2)
+
+pub other_kinds : (e : Entry) → ((kind : Kind) → role_of e ≡ Variable kind → ⊥) → is_variable e ≡ false
+other_kinds e n = go (is_variable e) refl
+  where
+    go : (v : Bool) → is_variable e ≡ v → v ≡ false
+    go true h = let k = role_kind e h in absurd (n k.0 k.1)
+    go false h = refl
 
 -- ---- the arrays of a directory
 
 module _ (ds : List Entry) (i : ℕ) (l : i < length ds) where
-  pub roles_at : get_or (sets_of ds).roles i 0 ≡ role_of (at ds i)
+  pub roles_at : get_or (sets_of ds).roles i Other ≡ role_of (at ds i)
   unfolding sets_of
-  roles_at = padded-at role_of 0 128 ds i l
+  roles_at = padded-at role_of Other 128 ds i l
 
   pub counts-at : get_or (sets_of ds).counts i 0 ≡ count_of (at ds i)
   unfolding sets_of
@@ -85,39 +103,45 @@ module _ (ds : List Entry) (i : ℕ) (l : i < length ds) where
   unfolding sets_of
   offsets-at = padded-at start 0 128 ds i l
 
-  pub is-variable : role_within (sets_of ds).roles 1 4 i ≡ is_variable_at ds i
-  unfolding role_within is_variable_at
+  is-variable : varies_at (sets_of ds).roles i ≡ is_variable_at ds i
+  unfolding varies_at is_variable_at
   is-variable = rw roles_at (variable_role (at ds i))
 
-  is-states : role_within (sets_of ds).roles 5 5 i ≡ is_states_at ds i
-  unfolding role_within is_states_at
+  is-states : describes_at (sets_of ds).roles i ≡ is_states_at ds i
+  unfolding describes_at is_states_at
   is-states = rw roles_at (states_role (at ds i))
 
 module _ (ds : List Entry) where
   pub variable_found : some (is_variable_at ds) 0 (length ds) ≡ has_variable (sets_of ds).roles (length ds)
   unfolding has_variable
-  variable_found = some_same (is_variable_at ds) (role_within (sets_of ds).roles 1 4) 0 (length ds) (λ k l u. sym (is-variable ds k (omega arith)))
+  variable_found = some_same (is_variable_at ds) (varies_at (sets_of ds).roles) 0 (length ds) (λ k l u. sym (is-variable ds k (omega arith)))
 
   -- the only entry that describes states
   pub only-is : only_states (sets_of ds).roles (length ds) ≡ cond (eqb (count (is_states_at ds) 0 (length ds)) 1) (states_entry ds) (length ds)
   unfolding only_states states_entry only
-  only-is = only_same (role_within (sets_of ds).roles 5 5) (is_states_at ds) (length ds) (λ k l. is-states ds k l)
+  only-is = only_same (describes_at (sets_of ds).roles) (is_states_at ds) (length ds) (λ k l. is-states ds k l)
 
 -- ---- rule 16, by any tally
 
 module _ (ds : List Entry) (t : Tally) where
   filled_at : (i : ℕ) → i < length ds → rule16_at ds (tally_from t) i ≡ need (not (unfilled_at (sets_of ds).roles (sets_of ds).counts (sets_of ds).sizes t.counts t.totals i)) 16 (get_or (sets_of ds).offsets i 0) i
   unfolding rule16_at unfilled_at unfilled tally_from is_filled of_kind
-  filled_at i l = rw (roles_at ds i l, counts-at ds i l, sizes-at ds i l, offsets-at ds i l, variable_role (at ds i)) (go (is_variable (at ds i)) refl)
+  filled_at i l = rw (roles_at ds i l, counts-at ds i l, sizes-at ds i l, offsets-at ds i l) (go (is_variable (at ds i)) refl)
     where
       e : Entry
       e = at ds i
 
+      other : (s : Bool) → accepted ≡ need (not (unfilled (cond s States Other) e.count.magnitude (extent e) t.counts t.totals)) 16 (start e) i
+      other true = refl
+      other false = refl
+
       go : (v : Bool) → is_variable e ≡ v
           → where' v (need (eqb (of_kind t.counts (kind_of e)) e.count.magnitude && eqb (of_kind t.totals (kind_of e)) (extent e)) 16 (start e) i)
-          ≡ need (not (v && not (eqb (of_kind t.counts (role_of e)) e.count.magnitude && eqb (of_kind t.totals (role_of e)) (extent e)))) 16 (start e) i
-      go false h = refl
-      go true h = rw (role_kind e h) (ap (λ (x : Bool). need x 16 (start e) i) (sym (not-not (eqb (of_kind t.counts (kind_of e)) e.count.magnitude && eqb (of_kind t.totals (kind_of e)) (extent e)))))
+          ≡ need (not (unfilled (role_of e) e.count.magnitude (extent e) t.counts t.totals)) 16 (start e) i
+      go false h = rw (role_other e h) (other (is_states e))
+      go true h =
+          let k = role_kind e h in
+          rw (k.1, k.2) (ap (λ (x : Bool). need x 16 (start e) i) (sym (not-not (eqb (of_kind t.counts (kind_of e)) e.count.magnitude && eqb (of_kind t.totals (kind_of e)) (extent e)))))
 
   pub rule16-by : rule16 ds (tally_from t) ≡ rule16_by (sets_of ds) t.counts t.totals
   unfolding rule16 rule16_by sets_of

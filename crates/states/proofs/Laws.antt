@@ -1,5 +1,6 @@
 -- States: where their numbers stand, the tests on them, the states that are left, their tally, and the records that they add to a variable set.
 -- Assumes nothing.
+use Rattle.std.specs.Prelude.{Option, Some, None}
 use Prim.Native.Nat.{ℕ, zero, suc, ◌+◌, ◌*◌, ◌-◌, ◌≤◌, ◌<◌}
 use mathlib.Core.Bool.{Bool, true, false, cond, ◌&&◌, not, and-false}
 use mathlib.Core.List.{List, [], ◌∷◌, ◌++◌, map}
@@ -20,7 +21,6 @@ use Rattle.layout.specs.Records.{variable_lengths}
 use Rattle.layout.proofs.Laws.{lt-or-le}
 use Rattle.states.specs.declared.Tally.{Tally}
 use Rattle.states.specs.declared.Found.{Found}
-use Rattle.states.specs.declared.Found.TheVariants.{At, Nothing}
 use Rattle.states.specs.States.{state_from, states_from, cap, capped, Capped, added, tally_is, with_state, after, no_tally, found_behind, found}
 use Rattle.states.proofs.Sums.{zero-capped, capped_is, capped_plus, no_sums, added-capped, Four, added_four, left, left-none, left_step}
 
@@ -206,7 +206,7 @@ module _ (size : ℕ) (ns : List ℕ) where
   pub records-length : (n : ℕ) → length (replicate n size ++ ns) ≡ n + length ns
   records-length n = length-append (replicate n size) ns ∙ rw (length-replicate n size)
 
-  found_hit : (before n j : ℕ) → j < n → found_behind before (replicate n size ++ ns) j ≡ At (capped (before + j * size)) size
+  found_hit : (before n j : ℕ) → j < n → found_behind before (replicate n size ++ ns) j ≡ Some (record { before = capped (before + j * size); length = size })
   unfolding found_behind
   found_hit before n j h = rw (records-length n, lt-ltb j (n + length ns) (omega arith), sum_hit n j (omega arith), at_hit n j h)
 
@@ -228,15 +228,15 @@ unfolding variable_lengths
 no_rest b start n kind i h = rw (rest_end b start n i h)
 
 -- what is left of the search for a record is the whole search: at a state that holds it, behind one that does not, and behind all
-module _ (b : List ℕ) (start n kind i before j : ℕ) (f : Found) (so : f ≡ found_behind before (variable_lengths (rest_from b start n i) kind) j) where
+module _ (b : List ℕ) (start n kind i before j : ℕ) (f : Option Found) (so : f ≡ found_behind before (variable_lengths (rest_from b start n i) kind) j) where
   module _ (s : State) (m u : ℕ) (h : i < n) (e : s ≡ state_from b start i) (q : m ≡ state_count kind s) where
-    pub record_here : j < m → u ≡ capped (before + j * s.record_length) → At u s.record_length ≡ f
+    pub record_here : j < m → u ≡ capped (before + j * s.record_length) → Some (record { before = u; length = s.record_length }) ≡ f
     record_here l r = sym (so ∙ rw (rest_lengths b start n kind i s m h e q, r) (found_hit s.record_length (variable_lengths (rest_from b start n (i + 1)) kind) before m j l))
 
     pub record_later : m ≤ j → u ≡ capped (before + m * s.record_length) → f ≡ found_behind u (variable_lengths (rest_from b start n (i + 1)) kind) (j - m)
     record_later l r = so ∙ rw (rest_lengths b start n kind i s m h e q, r) (found_miss s.record_length (variable_lengths (rest_from b start n (i + 1)) kind) before m j l)
 
-  pub record_nowhere : n ≤ i → Nothing ≡ f
+  pub record_nowhere : n ≤ i → None ≡ f
   unfolding found_behind
   record_nowhere h = sym (so ∙ rw (no_rest b start n kind i h, le-ltb j 0 (omega arith)))
 
@@ -258,6 +258,6 @@ sum-take (suc j) [] = omega arith
 sum-take (suc j) (n ∷ ns) = let h = sum-take j ns in omega arith
 
 -- the bytes before a record are not capped where the whole set's are not
-pub found_exact : (ns : List ℕ) (j : ℕ) → sum ns ≤ cap → found ns j ≡ cond (ltb j (length ns)) (At (sum (take j ns)) (get_or ns j 0)) Nothing
+pub found_exact : (ns : List ℕ) (j : ℕ) → sum ns ≤ cap → found ns j ≡ cond (ltb j (length ns)) (Some (record { before = sum (take j ns); length = get_or ns j 0 })) None
 unfolding found found_behind
 found_exact ns j h = let q = sum-take j ns in rw (zero-add (sum (take j ns)), capped_is (sum (take j ns)) (omega arith))

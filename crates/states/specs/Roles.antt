@@ -1,30 +1,39 @@
 -- Rules 15 and 16 by the arrays of a directory.
 -- Assumes nothing.
-use Rattle.std.specs.Prelude.{ℕ, ◌+◌, ◌*◌, ◌-◌, Bool, ◌&&◌, not, List, leb, ltb, eqb, get_or}
-use Rattle.layout.specs.Bytes.{within}
+use Rattle.std.specs.Prelude.{ℕ, ◌+◌, ◌*◌, Bool, false, ◌&&◌, not, List, leb, ltb, eqb, get_or}
 use Rattle.layout.specs.Answer.{Answer, need, where', ◌or_else◌}
 use Rattle.layout.specs.Search.{some, find, only}
+use Rattle.layout.specs.States.{of_kind}
+use Rattle.dsd.specs.declared.Role.{Role}
+use Rattle.dsd.specs.declared.Role.TheVariants.{Other, Variable, States}
+use Rattle.dsd.specs.Held.{kind_number, of_variable, of_states}
 use Rattle.directory.specs.declared.Sets.{Sets}
 use Rattle.states.specs.declared.Tally.{Tally}
 
--- the role of entry i lies between two
-unfoldable pub role_within : List ℕ → ℕ → ℕ → ℕ → Bool
-role_within roles low high i = within low high (get_or roles i 0)
+-- entry i is a variable set; entry i describes the states
+unfoldable pub varies_at : List Role → ℕ → Bool
+varies_at roles i = of_variable (get_or roles i Other)
+
+unfoldable pub describes_at : List Role → ℕ → Bool
+describes_at roles i = of_states (get_or roles i Other)
 
 -- one of n entries is a variable set
-unfoldable pub has_variable : List ℕ → ℕ → Bool
-has_variable roles n = some (role_within roles 1 4) 0 n
+unfoldable pub has_variable : List Role → ℕ → Bool
+has_variable roles n = some (varies_at roles) 0 n
 
 -- the entry that describes the states, if exactly one of n entries does, else n
-unfoldable pub only_states : List ℕ → ℕ → ℕ
-only_states roles n = only (role_within roles 5 5) n
+unfoldable pub only_states : List Role → ℕ → ℕ
+only_states roles n = only (describes_at roles) n
 
 -- a variable set of this role, whose records, of which a tally has these counts and totals, do not fill it
-unfoldable pub unfilled : ℕ → ℕ → ℕ → List ℕ → List ℕ → Bool
-unfilled role count size tallied totals = within 1 4 role && not (eqb (get_or tallied (role - 1) 0) count && eqb (get_or totals (role - 1) 0) size)
+unfoldable pub unfilled : Role → ℕ → ℕ → List ℕ → List ℕ → Bool
+unfilled (Variable kind) count size tallied totals =
+    not (eqb (of_kind tallied (kind_number kind)) count && eqb (of_kind totals (kind_number kind)) size)
+unfilled States count size tallied totals = false
+unfilled Other count size tallied totals = false
 
-unfoldable pub unfilled_at : List ℕ → List ℕ → List ℕ → List ℕ → List ℕ → ℕ → Bool
-unfilled_at roles counts sizes tallied totals i = unfilled (get_or roles i 0) (get_or counts i 0) (get_or sizes i 0) tallied totals
+unfoldable pub unfilled_at : List Role → List ℕ → List ℕ → List ℕ → List ℕ → ℕ → Bool
+unfilled_at roles counts sizes tallied totals i = unfilled (get_or roles i Other) (get_or counts i 0) (get_or sizes i 0) tallied totals
 
 -- rule 16 by the arrays: the first such set is refused
 unfoldable pub rule16_by : Sets → List ℕ → List ℕ → Answer

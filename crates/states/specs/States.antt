@@ -1,14 +1,13 @@
 -- What the calls on states answer, in the words of the layout definition. A sum that could pass 64 bits is capped at 2^62: 1,548,292 states, which a
 -- product can hold, can total 4.4e20 bytes.
 -- Assumes nothing.
-use Rattle.std.specs.Prelude.{ℕ, ◌+◌, ◌*◌, ◌-◌, ◌≤◌, cond, ◌&&◌, List, [], ◌∷◌, map, leb, ltb, eqb, length, take, get_or, set, replicate}
+use Rattle.std.specs.Prelude.{ℕ, ◌+◌, ◌*◌, ◌-◌, ◌≤◌, cond, ◌&&◌, List, [], ◌∷◌, map, leb, ltb, eqb, length, take, get_or, set, replicate, Option, Some, None}
 use Rattle.layout.specs.Bytes.{part, within}
 use Rattle.layout.specs.Search.{upto, sum}
 use Rattle.layout.specs.States.{State, state_of, state_fits, state_count, state_bytes, Tally, of_kind}
 use Rattle.states.specs.declared.State.{State as StateRead}
 use Rattle.states.specs.declared.Tally.{Tally as TallyRead}
 use Rattle.states.specs.declared.Found.{Found}
-use Rattle.states.specs.declared.Found.TheVariants.{At, Nothing}
 
 -- the layout's state with these numbers, and that which a State is
 abbrev pub state : ℕ → ℕ → ℕ → ℕ → State
@@ -73,8 +72,8 @@ no_tally = tally 0 (replicate 4 0) (replicate 4 0)
 -- ---- records of a variable set
 
 -- where record j lies among records of these lengths, behind so many bytes
-unfoldable pub found_behind : ℕ → List ℕ → ℕ → Found
-found_behind before ns j = cond (ltb j (length ns)) (At (capped (before + sum (take j ns))) (get_or ns j 0)) Nothing
+unfoldable pub found_behind : ℕ → List ℕ → ℕ → Option Found
+found_behind before ns j = cond (ltb j (length ns)) (Some (record { before = capped (before + sum (take j ns)); length = get_or ns j 0 })) None
 
-unfoldable pub found : List ℕ → ℕ → Found
+unfoldable pub found : List ℕ → ℕ → Option Found
 found ns j = found_behind 0 ns j

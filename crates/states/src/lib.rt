@@ -6,16 +6,18 @@ ghost use Rattle.layout.specs.Answers.{verdict_is};
 ghost use Rattle.layout.specs.Bytes.{part};
 ghost use Rattle.layout.specs.Records.{variable_lengths};
 ghost use Rattle.layout.specs.Rules.{state_rules};
-ghost use Rattle.layout.specs.Search.{find};
+ghost use Rattle.layout.specs.Search.{find, Below};
 ghost use Rattle.layout.specs.States.{size_of_state, state_of, state_fits, state_count, states_of, tally_of};
-ghost use Rattle.states.specs.States.{state, state_is, cap, capped, Capped, added, states_from, tally_is, tally, tally_from, with_state, found};
-ghost use Rattle.states.specs.Roles.{role_within, has_variable, only_states, unfilled, unfilled_at, rule16_by, described_by};
+ghost use Rattle.dsd.specs.Held.{kind_number};
+ghost use Rattle.states.specs.States.{state_is, cap, capped, Capped, added, states_from, tally_is, tally_from, no_tally, with_state, found};
+ghost use Rattle.states.specs.Roles.{describes_at, has_variable, only_states, unfilled, unfilled_at, rule16_by, described_by};
 ghost use Rattle.states.specs.Laid.{Laid, Every, span_of};
 
 use directory::Sets;
-use layout::Verdict;
+use dsd::{Kind, Role};
+use layout::{Refusal, refuse};
 
-// Source 003, table 15.4.1.7.20-1.
+// Source 003, table 15.4.1.7.20-1. The kind stays the record's own byte: any may stand there, and rule 15 judges it.
 #[derive(Clone, Copy)]
 pub struct State {
     pub flag: u8,
@@ -62,22 +64,30 @@ impl State {
         self.record_length != 0
     }
 
-    // How many records the state adds to a set of this kind. Flag 0 means that records ARE attached.
-    pub fn adds_to(self, kind: u8) -> u64
-        ensures { (result ≡ state_count kind (state_is self)) × (result < 65536) }
+    // How many records the state adds to a set of the kind of this number. Flag 0 means that records ARE attached. Its own number is compared too: without
+    // that, a judgement of 1,000 states takes 2 % longer.
+    fn adds(self, number: u8) -> u64
+        ensures { (result ≡ state_count number (state_is self)) × (result < 65536) }
     {
         if self.flag != 0 {
             return 0;
         }
-        if self.kind != kind {
+        if self.kind != number {
             return 0;
         }
         self.count as u64
     }
+
+    // How many records the state adds to a set of this kind.
+    pub fn adds_to(self, kind: Kind) -> u64
+        ensures { (result ≡ state_count (kind_number kind) (state_is self)) × (result < 65536) }
+    {
+        self.adds(kind.number())
+    }
 }
 
-// The states of a product together. The number of the first state that does not fit, or how many there are; the records of kinds 1 to 4, and their
-// bytes.
+// The states of a product together, as layout's `Tally` has them: the number of the first state that does not fit, or how many there are; the records of
+// kinds 1 to 4, and their bytes.
 #[derive(Clone, Copy)]
 pub struct Tally {
     pub bad: usize,
@@ -99,7 +109,8 @@ fn plus(sum: u64, more: u64) -> u64
     all
 }
 
-// So much more for one kind, if it is one of the four. In place: to copy all four right behind a store to one would wait for it.
+// So much more for the kind of this number, a state record's own byte, if it is one of the four. In place: to copy all four right behind a store to one
+// would wait for it.
 fn add_at(sums: &mut [u64; 4], kind: u8, more: u64)
     requires { Capped sums.old × (more ≤ cap) }
     ensures { sums.new ≡ added sums.old kind more }
@@ -128,33 +139,32 @@ fn bad_after(bad: usize, i: usize, fits: bool) -> usize
     bad
 }
 
-// One more state, number i, for any tally whose sums are capped: they are changed in place, and what `bad` is then is answered.
-// By the state's numbers: a state that is handed on whole is packed into one word and taken apart again, by half as many instructions more.
-pub fn add_state(
-    bad: usize,
-    counts: &mut [u64; 4],
-    totals: &mut [u64; 4],
-    flag: u8,
-    kind: u8,
-    count: u16,
-    record_length: u32,
-    i: usize,
-) -> usize
-    requires { Capped counts.old × Capped totals.old × (i < 18446744073709551615) }
-    ensures { tally result counts.new totals.new ≡ with_state (tally bad counts.old totals.old) (state flag kind count record_length) i }
-{
-    let state = State {
-        flag,
-        kind,
-        count,
-        record_length,
-    };
-    let more = state.adds_to(kind);
-    let bytes = more * record_length as u64;
-    let bad_then = bad_after(bad, i, state.fits());
-    add_at(counts, kind, more);
-    add_at(totals, kind, bytes);
-    bad_then
+impl Tally {
+    // Of no state.
+    pub fn none() -> Tally
+        ensures { result ≡ no_tally }
+    {
+        Tally {
+            bad: 0,
+            counts: [0; 4],
+            totals: [0; 4],
+        }
+    }
+
+    // One more state, number i, whatever the tally, if its sums are capped.
+    pub fn add_state(&mut self, state: State, i: usize)
+        requires { Capped self.old.counts × Capped self.old.totals × (i < 18446744073709551615) }
+        ensures { self.new ≡ with_state self.old (state_is state) i }
+    {
+        let more = state.adds(state.kind);
+        self.bad = bad_after(self.bad, i, state.fits());
+        add_at(&mut self.counts, state.kind, more);
+        add_at(
+            &mut self.totals,
+            state.kind,
+            more * state.record_length as u64,
+        );
+    }
 }
 
 // Of the states whose records begin at a place and follow each other.
@@ -162,106 +172,73 @@ pub fn tally_states(p: &[u8], start: usize, count: usize) -> Tally
     requires { start + size_of_state * count ≤ length p.now }
     ensures { result ≡ tally_is (tally_of (states_from p.now start count)) }
 {
-    let mut bad = 0;
-    let mut counts: [u64; 4] = [0; 4];
-    let mut totals: [u64; 4] = [0; 4];
-    let mut i = 0;
-    while i < count {
-        let at = start + State::SIZE * i;
-        let state = State::at(p, at);
-        bad = add_state(
-            bad,
-            &mut counts,
-            &mut totals,
-            state.flag,
-            state.kind,
-            state.count,
-            state.record_length,
-            i,
-        );
-        i += 1;
+    let mut tally = Tally::none();
+    for i in 0..count {
+        tally.add_state(State::at(p, start + State::SIZE * i), i);
     }
-    Tally {
-        bad,
-        counts,
-        totals,
-    }
+    tally
 }
 
 // A record of a variable set: the bytes of the records before it, and its length.
 #[derive(Clone, Copy)]
-pub enum Found {
-    At { before: u64, length: u64 },
-    Nothing,
+pub struct Found {
+    pub before: u64,
+    pub length: u64,
 }
 
 // The record that is asked for, of the set of a kind.
-pub fn find_record(p: &[u8], start: usize, count: usize, kind: u8, asked: usize) -> Found
+pub fn find_record(p: &[u8], start: usize, count: usize, kind: Kind, asked: usize) -> Option<Found>
     requires { start + size_of_state * count ≤ length p.now }
-    ensures { result ≡ found (variable_lengths (states_from p.now start count) kind) asked }
+    ensures { result ≡ found (variable_lengths (states_from p.now start count) (kind_number kind)) asked }
 {
     let mut before = 0;
     let mut left = asked as u64;
-    let mut i = 0;
-    while i < count {
-        let at = start + State::SIZE * i;
-        let state = State::at(p, at);
+    for i in 0..count {
+        let state = State::at(p, start + State::SIZE * i);
         let n = state.adds_to(kind);
         let length = state.record_length as u64;
         if left < n {
-            return Found::At {
+            return Some(Found {
                 before: plus(before, left * length),
                 length,
-            };
+            });
         }
         left -= n;
         before = plus(before, n * length);
-        i += 1;
     }
-    Found::Nothing
+    None
 }
 
 // ---- rules 15 and 16, by the numbers of a directory's entries
 
-// The first entry from `from` on whose role lies between two, or the number of entries. Roles 1 to 4 are variable sets, 5 is the states.
-fn first_role(roles: &[u8; 128], from: usize, entries: usize, low: u8, high: u8) -> usize
-    requires { (from ≤ entries) × (entries ≤ 128) }
-    ensures { result ≡ find (role_within roles.now low high) from (entries - from) }
-{
-    let mut i = from;
-    while i < entries {
-        let role = roles[i];
-        if low <= role {
-            if role <= high {
-                return i;
-            }
-        }
-        i += 1;
-    }
-    entries
-}
-
 // Some entry is a variable set.
-pub fn has_variable(roles: &[u8; 128], entries: usize) -> bool
-    requires { entries ≤ 128 }
-    ensures { result ≡ has_variable roles.now entries }
+pub fn has_variable(sets: &Sets) -> bool
+    requires { sets.now.entries ≤ 128 }
+    ensures { result ≡ has_variable sets.now.roles sets.now.entries }
 {
-    first_role(roles, 0, entries, 1, 4) != entries
+    sets.roles[..sets.entries]
+        .iter()
+        .any(|role| role.is_variable())
 }
 
-// The entry that describes the states, if exactly one does, else the number of entries.
-fn only_states(roles: &[u8; 128], entries: usize) -> usize
-    requires { entries ≤ 128 }
-    ensures { result ≡ only_states roles.now entries }
+// The first entry from `from` on that describes the states.
+fn first_states(sets: &Sets, from: usize) -> Option<usize>
+    requires { (from ≤ sets.now.entries) × (sets.now.entries ≤ 128) }
+    ensures { Below sets.now.entries result (find (describes_at sets.now.roles) from (sets.now.entries - from)) }
 {
-    let i = first_role(roles, 0, entries, 5, 5);
-    if i == entries {
-        return entries;
+    (from..sets.entries).find(|i| sets.roles[*i].is_states())
+}
+
+// The entry that describes the states, if exactly one does.
+fn only_states(sets: &Sets) -> Option<usize>
+    requires { sets.now.entries ≤ 128 }
+    ensures { Below sets.now.entries result (only_states sets.now.roles sets.now.entries) }
+{
+    let i = first_states(sets, 0)?;
+    if first_states(sets, i + 1).is_some() {
+        return None;
     }
-    if first_role(roles, i + 1, entries, 5, 5) != entries {
-        return entries;
-    }
-    i
+    Some(i)
 }
 
 // Where the states begin that rules 15 and 16 look at, and how many there are: 0 and 0 where these look at none.
@@ -271,137 +248,112 @@ pub struct StatesSpan {
     pub count: u64,
 }
 
-pub fn states_span(sets: Sets) -> StatesSpan
-    requires { (n : ℕ) × Laid sets n }
-    ensures { Every sets (λ ds. result ≡ span_of ds) }
-{
-    let entries = sets.entries;
-    let roles = sets.roles;
-    let i = only_states(&roles, entries);
-    if i == entries {
-        return StatesSpan { place: 0, count: 0 };
+impl StatesSpan {
+    fn none() -> StatesSpan
+        ensures { result ≡ record { place = 0; count = 0 } }
+    {
+        StatesSpan { place: 0, count: 0 }
     }
-    let sizes = sets.sizes;
-    let counts = sets.counts;
-    let offsets = sets.offsets;
-    let size = sizes[i];
-    let count = counts[i];
+}
+
+pub fn states_span(sets: &Sets) -> StatesSpan
+    requires { (n : ℕ) × Laid sets.now n }
+    ensures { Every sets.now (λ ds. result ≡ span_of ds) }
+{
+    let Some(i) = only_states(sets) else {
+        return StatesSpan::none();
+    };
+    let size = sets.sizes[i];
+    let count = sets.counts[i];
     if size == 0 {
-        return StatesSpan { place: 0, count: 0 };
+        return StatesSpan::none();
     }
     if size != State::SIZE as u64 * count {
-        return StatesSpan { place: 0, count: 0 };
+        return StatesSpan::none();
     }
     StatesSpan {
-        place: offsets[i],
+        place: sets.offsets[i],
         count,
     }
 }
 
 // A variable set whose records, of which there are so many of each kind with so many bytes, do not fill it.
-fn is_unfilled(role: u8, count: u64, size: u64, tallied: [u64; 4], totals: [u64; 4]) -> bool
-    ensures { result ≡ unfilled role count size tallied totals }
+fn is_unfilled(role: Role, count: u64, size: u64, tally: &Tally) -> bool
+    ensures { result ≡ unfilled role count size tally.now.counts tally.now.totals }
 {
-    if role < 1 {
+    let Role::Variable(kind) = role else {
         return false;
-    }
-    if 4 < role {
-        return false;
-    }
-    let kind = (role - 1) as usize;
-    if tallied[kind] != count {
+    };
+    let place = kind.place();
+    if tally.counts[place] != count {
         return true;
     }
-    totals[kind] != size
+    tally.totals[place] != size
 }
 
-// Rule 16: the first variable set that its states do not fill, or the number of entries.
-fn first_unfilled(sets: Sets, tallied: [u64; 4], totals: [u64; 4]) -> usize
-    requires { sets.entries ≤ 128 }
-    ensures { result ≡ find (unfilled_at sets.roles sets.counts sets.sizes tallied totals) 0 sets.entries }
+// Rule 16: the first variable set that its states do not fill.
+fn first_unfilled(sets: &Sets, tally: &Tally) -> Option<usize>
+    requires { sets.now.entries ≤ 128 }
+    ensures { Below sets.now.entries result (find (unfilled_at sets.now.roles sets.now.counts sets.now.sizes tally.now.counts tally.now.totals) 0 sets.now.entries) }
 {
-    let entries = sets.entries;
-    let roles = sets.roles;
-    let counts = sets.counts;
-    let sizes = sets.sizes;
-    let mut i = 0;
-    while i < entries {
-        if is_unfilled(roles[i], counts[i], sizes[i], tallied, totals) {
-            return i;
-        }
-        i += 1;
-    }
-    entries
+    (0..sets.entries).find(|i| is_unfilled(sets.roles[*i], sets.counts[*i], sets.sizes[*i], tally))
 }
 
 // Rule 16, where the states are tallied.
-fn judge_filled(sets: Sets, tallied: [u64; 4], totals: [u64; 4]) -> Verdict
-    requires { sets.entries ≤ 128 }
-    ensures { verdict_is result ≡ rule16_by sets tallied totals }
+fn judge_filled(sets: &Sets, tally: &Tally) -> Result<(), Refusal>
+    requires { sets.now.entries ≤ 128 }
+    ensures { verdict_is result ≡ rule16_by sets.now tally.now.counts tally.now.totals }
 {
-    let entries = sets.entries;
-    let unfilled = first_unfilled(sets, tallied, totals);
-    if unfilled == entries {
-        return Verdict::Accepted;
+    match first_unfilled(sets, tally) {
+        Some(unfilled) => refuse(16, sets.offsets[unfilled], unfilled),
+        None => Ok(()),
     }
-    let offsets = sets.offsets;
-    Verdict::refuse(16, offsets[unfilled], unfilled)
 }
 
 // Rules 15 and 16 by a tally, where entry i and no other describes the states.
-fn judge_described(sets: Sets, i: usize, tally: Tally) -> Verdict
-    requires { ((n : ℕ) × Laid sets n) × (i < sets.entries) × (i ≡ only_states sets.roles sets.entries) }
-    ensures { verdict_is result ≡ described_by sets i tally }
+fn judge_described(sets: &Sets, i: usize, tally: &Tally) -> Result<(), Refusal>
+    requires { ((n : ℕ) × Laid sets.now n) × (i < sets.now.entries) × (i ≡ only_states sets.now.roles sets.now.entries) }
+    ensures { verdict_is result ≡ described_by sets.now i tally.now }
 {
-    let tallied = tally.counts;
-    let totals = tally.totals;
-    let sizes = sets.sizes;
-    let counts = sets.counts;
-    let offsets = sets.offsets;
-    let size = sizes[i];
-    let count = counts[i];
-    let place = offsets[i];
+    let size = sets.sizes[i];
+    let count = sets.counts[i];
+    let place = sets.offsets[i];
     if size == 0 {
-        return judge_filled(sets, tallied, totals);
+        return judge_filled(sets, tally);
     }
     if size != State::SIZE as u64 * count {
-        return Verdict::refuse(15, place, i);
+        return refuse(15, place, i);
     }
     let bad = tally.bad as u64;
     if bad < count {
-        return Verdict::refuse(15, place + State::SIZE as u64 * bad, i);
+        return refuse(15, place + State::SIZE as u64 * bad, i);
     }
-    judge_filled(sets, tallied, totals)
+    judge_filled(sets, tally)
 }
 
 // Rules 15 and 16 by any tally of the states that these look at.
-pub fn judge_tally(sets: Sets, tally: Tally) -> Verdict
-    requires { (n : ℕ) × Laid sets n }
-    ensures { Every sets (λ ds. verdict_is result ≡ state_rules ds (tally_from tally)) }
+pub fn judge_tally(sets: &Sets, tally: &Tally) -> Result<(), Refusal>
+    requires { (n : ℕ) × Laid sets.now n }
+    ensures { Every sets.now (λ ds. verdict_is result ≡ state_rules ds (tally_from tally.now)) }
 {
-    let entries = sets.entries;
-    let roles = sets.roles;
-    if !has_variable(&roles, entries) {
-        return Verdict::Accepted;
+    if !has_variable(sets) {
+        return Ok(());
     }
-    let i = only_states(&roles, entries);
-    if i == entries {
-        return Verdict::refuse(15, 0, 128);
+    match only_states(sets) {
+        Some(i) => judge_described(sets, i, tally),
+        None => refuse(15, 0, Refusal::NO_ENTRY),
     }
-    judge_described(sets, i, tally)
 }
 
 // Rules 15 and 16 of a product lent whole. Where it has no variable set, the states are not looked at.
-pub fn judge_states(p: &[u8], sets: Sets) -> Verdict
-    requires { Laid sets (length p.now) }
-    ensures { Every sets (λ ds. verdict_is result ≡ state_rules ds (tally_of (states_of p.now ds))) }
+pub fn judge_states(p: &[u8], sets: &Sets) -> Result<(), Refusal>
+    requires { Laid sets.now (length p.now) }
+    ensures { Every sets.now (λ ds. verdict_is result ≡ state_rules ds (tally_of (states_of p.now ds))) }
 {
-    let entries = sets.entries;
-    let roles = sets.roles;
-    if !has_variable(&roles, entries) {
-        return Verdict::Accepted;
+    if !has_variable(sets) {
+        return Ok(());
     }
     let span = states_span(sets);
     let tally = tally_states(p, span.place as usize, span.count as usize);
-    judge_tally(sets, tally)
+    judge_tally(sets, &tally)
 }

@@ -1,4 +1,4 @@
-// An input that arrived whole, or the word that it did not and why; the end of an output; and the line that says what failed.
+// An input that arrived whole, or why it did not; the end of an output; and the line that says what failed.
 #![tactic(auto)]
 
 ghost use Rattle.std.specs.Prelude.{IfSome};
@@ -10,32 +10,22 @@ use std::io::{ErrorKind, Read};
 use std::rt::Files;
 use std::{fs, io};
 
-// What came of an input.
-#[derive(Clone, Copy)]
-pub enum Arrived {
-    // So many bytes at the start of the room: all of the input, or as many as the room holds.
-    Whole(usize),
-    // A read failed, for this reason.
-    Failed(io::Error),
-}
-
-// Reads until the input ends or the room is full. Where one read fails, what came before it is no input.
-pub fn read_whole<R: Read>(input: &mut R, room: &mut [u8]) -> Arrived
+// Reads until the input ends or the room is full, and answers how many bytes are then at the start of the room. Where one read fails, what came before it
+// is no input.
+pub fn read_whole<R: Read>(input: &mut R, room: &mut [u8]) -> io::Result<usize>
     ensures fills { Fills result room.new }
     ensures holds { IfSome (R.remaining input.old) (Holds result room.new) }
 {
     let mut done = 0;
+    // A `while`: how far a turn goes is the reader's to say.
     while done < room.len() {
-        let more = match input.read(&mut room[done..]) {
-            Ok(more) => more,
-            Err(error) => return Arrived::Failed(error),
-        };
+        let more = input.read(&mut room[done..])?;
         if more == 0 {
-            return Arrived::Whole(done);
+            return Ok(done);
         }
         done += more;
     }
-    Arrived::Whole(done)
+    Ok(done)
 }
 
 // Standard output as a file, where it is one.
@@ -101,21 +91,14 @@ mod tests {
         }
     }
 
-    fn count(arrived: Arrived) -> Option<usize> {
-        match arrived {
-            Arrived::Whole(count) => Some(count),
-            Arrived::Failed(_) => None,
-        }
-    }
-
     #[test]
     fn pieces_arrive_in_their_order(rt: HostRuntime) {
         let mut room = [b'.'; 6];
         let mut input = b"abc".as_slice().chain(b"de".as_slice());
-        assert_eq!(rt; count(read_whole(&mut input, &mut room)), Some(5));
+        assert_eq!(rt; read_whole(&mut input, &mut room).ok(), Some(5));
         assert_eq!(rt; room, *b"abcde.");
         let mut longer = b"abc".as_slice().chain(b"defgh".as_slice());
-        assert_eq!(rt; count(read_whole(&mut longer, &mut room)), Some(6));
+        assert_eq!(rt; read_whole(&mut longer, &mut room).ok(), Some(6));
         assert_eq!(rt; room, *b"abcdef");
     }
 
@@ -123,7 +106,7 @@ mod tests {
     fn what_came_before_a_failed_read_is_no_input(rt: HostRuntime) {
         let mut room = [0; 4];
         let mut input = Broken { is_begun: false };
-        assert_eq!(rt; count(read_whole(&mut input, &mut room)), None);
-        assert_eq!(rt; count(read_whole(&mut input, &mut [])), Some(0));
+        assert_eq!(rt; read_whole(&mut input, &mut room).ok(), None);
+        assert_eq!(rt; read_whole(&mut input, &mut []).ok(), Some(0));
     }
 }

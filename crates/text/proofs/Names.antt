@@ -1,46 +1,48 @@
 -- A name and the blanks behind it, byte by byte.
 -- Assumes nothing.
-use Prim.Native.Nat.{ℕ, zero, suc, ◌+◌, ◌-◌, ◌≤◌, ◌<◌}
-use mathlib.Core.Bool.{Bool, true, false, cond, ◌&&◌, not}
-use mathlib.Core.List.{List, []}
-use mathlib.Core.Path.{◌≡◌}
+use Prim.Native.Nat.{ℕ, zero, suc, ◌+◌, ◌-◌, ◌≤◌}
+use mathlib.Core.Bool.{Bool, true, false, cond, ◌&&◌, not, and_assoc}
+use mathlib.Core.List.{List, [], ◌∷◌}
+use mathlib.Core.Path.{◌≡◌, sym, ap, ◌∙◌}
 use native.Mathlib.Omega.{arith}
-use native.Mathlib.Nat.{add-zero}
-use native.Mathlib.Numerals.{add-one}
+use native.Mathlib.Nat.{add-zero, zero-add, suc-add, add-suc}
 use lib.Dec.{eqb}
-use lib.ListN.{length, drop, get_or}
-use lib.Seq.{drop-cons, drop-length}
+use lib.ListN.{length, take, drop, get_or}
+use lib.Pointwise.{pointwise}
+use lib.Seq.{drop-cons}
 use borrow.Author.Tests.{eq-eqb, ne_eqb}
 use Rattle.layout.specs.Bytes.{part, byte_at}
 use Rattle.layout.specs.Search.{find}
 use Rattle.layout.specs.Entries.{called}
 use Rattle.text.specs.Blanks.{not_blank}
-use Rattle.text.proofs.Parts.{part-cons, part_end}
 
--- the bytes from `i` on are the rest of a name
-module _ (b name : List ℕ) (start to : ℕ) (l : to ≤ length b) where
-  pub name_step : (i : ℕ) → start + i < to → i < length name
-      → called (part b (start + i) (to - (start + i))) (drop i name)
-      ≡ (eqb (get_or b (start + i) 0) (get_or name i 0) && called (part b (start + (i + 1)) (to - (start + (i + 1)))) (drop (i + 1) name))
+module _ (b : List ℕ) where
+  -- blanks up to the end
+  blank_rest : (n i to : ℕ) → to ≤ length b → i + n ≡ to → called (take n (drop i b)) [] ≡ eqb (find (not_blank b) i n) to
+  unfolding find called not_blank byte_at
+  blank_rest zero i to l q = let e : i ≡ to = omega arith in sym (eq-eqb i to e)
+  blank_rest (suc n) i to l q = rw (drop-cons b i 0 (omega arith)) (go (eqb (get_or b i 0) 32) (blank_rest n (suc i) to l (omega arith)))
+    where
+      go : (t : Bool) → called (take n (drop (suc i) b)) [] ≡ eqb (find (not_blank b) (suc i) n) to
+          → (t && called (take n (drop (suc i) b)) []) ≡ eqb (cond (not t) i (find (not_blank b) (suc i) n)) to
+      go true below = below
+      go false below = sym (ne_eqb i to (λ e. omega arith))
+
+  padded : (name : List ℕ) (n i to : ℕ) → to ≤ length b → i + length name + n ≡ to
+      → called (take (length name + n) (drop i b)) name ≡ (pointwise eqb (take (length name) (drop i b)) name && eqb (find (not_blank b) (i + length name) n) to)
   unfolding called
-  name_step i h k =
-      let q : start + i + 1 ≡ start + (i + 1) = omega arith in
-      rw (part-cons b (start + i) to h l, drop-cons name i 0 k, q, add-one i)
+  padded [] n i to l q = rw (zero-add n, add-zero i) (blank_rest n i to l (omega arith))
+  padded (y ∷ ys) n i to l q =
+      rw (suc-add (length ys) n, drop-cons b i 0 (omega arith), padded ys n (suc i) to l (omega arith), add-suc i (length ys), suc-add i (length ys))
+      (sym (and_assoc (eqb (get_or b i 0) y) (pointwise eqb (take (length ys) (drop (suc i) b)) ys) (eqb (find (not_blank b) (suc (i + length ys)) n) to)))
 
-pub name-start : (b name : List ℕ) (start : ℕ) → called (part b start 28) name ≡ called (part b (start + 0) (start + 28 - (start + 0))) (drop 0 name)
-name-start b name start = let q : start + 28 - start ≡ 28 = omega arith in rw (add-zero start, q)
-
--- blanks up to the end
-blank_rest : (b : List ℕ) (to n i : ℕ) → to ≤ length b → i + n ≡ to → eqb (find (not_blank b) i n) to ≡ called (part b i (to - i)) []
-unfolding find called not_blank byte_at
-blank_rest b to zero i l q = let e : i ≡ to = omega arith in rw (part_end b i to (omega arith)) (eq-eqb i to e)
-blank_rest b to (suc n) i l q = rw (part-cons b i to (omega arith) l, add-one i) (go (eqb (get_or b i 0) 32) (blank_rest b to n (suc i) l (omega arith)))
-  where
-    go : (t : Bool) → eqb (find (not_blank b) (suc i) n) to ≡ called (part b (suc i) (to - suc i)) []
-        → eqb (cond (not t) i (find (not_blank b) (suc i) n)) to ≡ (t && called (part b (suc i) (to - suc i)) [])
-    go true below = below
-    go false below = ne_eqb i to (λ e. omega arith)
-
-pub name_end : (b name : List ℕ) (start i to : ℕ) → to ≤ length b → start + i ≤ to → length name ≡ i
-    → eqb (find (not_blank b) (start + i) (to - (start + i))) to ≡ called (part b (start + i) (to - (start + i))) (drop i name)
-name_end b name start i to l h e = rw (← e, drop-length name, e) (blank_rest b to (to - (start + i)) (start + i) l (omega arith))
+  -- a name in 28 bytes
+  pub name_is : (name : List ℕ) (start : ℕ) → start + 28 ≤ length b → length name ≤ 28
+      → called (part b start 28) name
+      ≡ (pointwise eqb (take (start + length name - start) (drop start b)) name
+      && eqb (find (not_blank b) (start + length name) (start + 28 - (start + length name))) (start + 28))
+  unfolding part
+  name_is name start l h =
+      let m : start + length name - start ≡ length name = omega arith in
+      let n : 28 ≡ length name + (start + 28 - (start + length name)) = omega arith in
+      rw m (ap (λ (w : ℕ). called (take w (drop start b)) name) n ∙ padded name (start + 28 - (start + length name)) start (start + 28) l (omega arith))

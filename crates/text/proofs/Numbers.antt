@@ -1,29 +1,30 @@
 -- The turns of the loop over a number's digits, digits in pairs and in halves, and the value of a number.
 -- Assumes nothing.
 use Prim.Native.Nat.{ℕ, zero, suc, ◌+◌, ◌*◌, ◌-◌, ◌^◌, ◌≤◌, ◌<◌, min}
-use mathlib.Core.Bool.{Bool, true, false, cond, not}
+use mathlib.Core.Bool.{Bool, true, false, cond, ◌&&◌}
 use mathlib.Core.List.{List, [], ◌∷◌}
 use mathlib.Core.Path.{◌≡◌, refl, sym, ap, ◌∙◌, subst}
 use native.Mathlib.Omega.{arith}
+use native.Mathlib.Numerals.{add-one}
 use native.Mathlib.Nat.{add-zero, zero-add, suc-add, add-mul, mul_assoc, mul_comm, add_assoc, pow-suc}
 use lib.Dec.{T, eqb}
 use lib.IntN.{ℤ, pos, neg_ℤ, ◌-ℤ◌, +ℤ_idl}
-use lib.ListN.{length, get_or}
+use lib.ListN.{length, take, drop, get_or}
 use lib.Seq.{drop-cons}
 use lib.Signed.{mag}
 use mir.Syntax.{w64}
 use mir.Val.{SFits, to_z, of_z}
 use mir.Facts.{to_z-of_z}
 use borrow.Author.Tests.{eqb-true, eq-eqb, ne_eqb, lt-ltb}
+use Rattle.std.specs.List.{fold}
+use Rattle.std.proofs.lemmas.List.{drop_all}
 use Rattle.layout.proofs.Tests.{is_true}
 use Rattle.layout.specs.Bytes.{part, byte_at}
 use Rattle.layout.specs.Text.{exactly, digit, fits, digits, number_of}
-use Rattle.layout.specs.Search.{some}
-use Rattle.text.specs.Runs.{fails}
 use Rattle.text.specs.Numbers.{AllDigits, capped, with_byte, number_in, whole_in}
 use Rattle.text.specs.declared.Number.{Number}
-use Rattle.text.proofs.Parts.{part-cons, part_end}
-use Rattle.text.proofs.Runs.{tested}
+use Rattle.text.proofs.Parts.{part-cons}
+use Rattle.text.proofs.Runs.{passed}
 use Rattle.text.proofs.Tests.{digit_bounds, not_failing}
 
 -- ---- one byte more
@@ -58,21 +59,19 @@ capped-capped : (n : ℕ) → capped (capped n) ≡ capped n
 unfolding capped
 capped-capped n = omega arith
 
-pub capped-most : (r n : ℕ) → r ≡ capped n → r ≤ 9223372036854775808
+pub capped_most : (r n : ℕ) → r ≡ capped n → r ≤ 9223372036854775808
 unfolding capped
-capped-most r n e = omega arith
+capped_most r n e = omega arith
 
--- what is left of the digits, behind the magnitude so far
-pub digit-next : (b : List ℕ) (m r i to : ℕ)
-    → i < to → to ≤ length b → r ≡ capped (with_byte m (get_or b i 0))
-    → capped (digits m (part b i (to - i))) ≡ capped (digits r (part b (i + 1) (to - (i + 1))))
+-- what is left of the digits from the i-th on, behind the magnitude so far
+pub digit_next : (xs : List ℕ) (m r i : ℕ) → i < length xs → r ≡ capped (with_byte m (get_or xs i 0)) → capped (digits m (drop i xs)) ≡ capped (digits r (drop (i + 1) xs))
 unfolding digits with_byte
-digit-next b m r i to h l e =
-    rw (part-cons b i to h l, e) (digits_same (part b (i + 1) (to - (i + 1))) (with_byte m (get_or b i 0)) (capped (with_byte m (get_or b i 0))) (sym (capped-capped (with_byte m (get_or b i 0)))))
+digit_next xs m r i h e =
+    rw (drop-cons xs i 0 h, e, add-one i) (digits_same (drop (suc i) xs) (with_byte m (get_or xs i 0)) (capped (with_byte m (get_or xs i 0))) (sym (capped-capped (with_byte m (get_or xs i 0)))))
 
-pub digits_end : (b : List ℕ) (m i to : ℕ) → to ≤ i → m ≤ 9223372036854775808 → capped (digits m (part b i (to - i))) ≡ m
+pub digits_end : (xs : List ℕ) (m i : ℕ) → length xs ≤ i → m ≤ 9223372036854775808 → capped (digits m (drop i xs)) ≡ m
 unfolding digits capped
-digits_end b m i to h l = rw (part_end b i to h) (omega arith)
+digits_end xs m i h l = rw (drop_all i xs h) (omega arith)
 
 pub number_is : (b : List ℕ) (at width m : ℕ) → 1 ≤ width → at + width ≤ length b → m ≡ capped (digits 0 (part b (at + 1) (at + width - (at + 1))))
     → ◌≡◌ {A = Number} (record { minus = eqb (get_or b at 0) 45; magnitude = m }) (number_in b at width)
@@ -164,13 +163,14 @@ module _ (b : List ℕ) where
       digit-first n at 0 (omega arith) (zero-digit at here)
       ∙ rw here (digits-zero n (suc at) (omega arith) (λ k v w. h k (omega arith) (omega arith)))
 
-  -- the bytes that a test as a whole passed
-  pub all_digits : (at n : ℕ) (all : Bool) → all ≡ not (some (fails (fits digit) b) at n) → all ≡ true → AllDigits b at n
-  all_digits at n all e h k l u = not_failing (fits digit) b k (tested (fails (fits digit) b) n at all e h k l u)
+  -- the n bytes of from..to that a test as a whole passed
+  module _ (from to n : ℕ) (all : Bool) where
+    pub all_digits : all ≡ fold (λ a x. a && fits digit x) true (take (to - from) (drop from b)) → all ≡ true → to ≤ length b → to ≡ from + n → AllDigits b from n
+    all_digits e h l q k v u = not_failing (fits digit) b k (passed (fits digit) b from to all e h l k v (omega arith))
 
-  pub all_zeros : (at n : ℕ) (all : Bool) → all ≡ not (some (fails (fits (exactly 48)) b) at n) → all ≡ true → AllZeros at n
-  unfolding byte_at fits
-  all_zeros at n all e h k l u = eqb-true (get_or b k 0) 48 (is_true _ (not_failing (fits (exactly 48)) b k (tested (fails (fits (exactly 48)) b) n at all e h k l u)))
+    pub all_zeros : all ≡ fold (λ a x. a && fits (exactly 48) x) true (take (to - from) (drop from b)) → all ≡ true → to ≤ length b → to ≡ from + n → AllZeros from n
+    unfolding byte_at fits
+    all_zeros e h l q k v u = eqb-true (get_or b k 0) 48 (is_true _ (not_failing (fits (exactly 48)) b k (passed (fits (exactly 48)) b from to all e h l k v (omega arith))))
 
   module _ (from to : ℕ) where
     pub ten-is : (r : ℕ) → to - from ≡ 10 → (r ≡ digits 0 (part b from 10)) × (r < 10 ^ 10) → r ≡ capped (digits 0 (part b from (to - from)))
@@ -198,9 +198,9 @@ pub minus-fits : (m : ℕ) → m < 9223372036854775808 → SFits w64 (pos 0 -ℤ
 minus-fits m h = subst (λ (z : ℤ). SFits w64 z) (sym (zero_minus m h)) (record { sfits = omega (arith, mag_neg m) })
 
 module _ (n : Number) (h : n.magnitude < 9223372036854775808) where
-  pub minus-whole : n.minus ≡ true → to_z w64 (of_z w64 (pos 0 -ℤ to_z w64 n.magnitude)) ≡ whole_in n
+  pub minus_whole : n.minus ≡ true → to_z w64 (of_z w64 (pos 0 -ℤ to_z w64 n.magnitude)) ≡ whole_in n
   unfolding whole_in
-  minus-whole e = rw e (to_z-of_z (minus-fits n.magnitude h) ∙ zero_minus n.magnitude h)
+  minus_whole e = rw e (to_z-of_z (minus-fits n.magnitude h) ∙ zero_minus n.magnitude h)
 
   pub plus_whole : n.minus ≡ false → to_z w64 n.magnitude ≡ whole_in n
   unfolding whole_in

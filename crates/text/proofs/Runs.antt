@@ -1,15 +1,23 @@
 -- Runs of bytes of one class, over any test t that a bad place passes: some places tested as a whole, and the blocks of a search.
 -- Assumes nothing.
 use Prim.Native.Nat.{ℕ, zero, suc, ◌+◌, ◌-◌, ◌≤◌, ◌<◌}
-use mathlib.Core.Bool.{Bool, true, false, ◌&&◌, ◌||◌, not, or-false, or_assoc}
+use mathlib.Core.Bool.{Bool, true, false, cond, ◌&&◌, ◌||◌, not, or-false, or_assoc, and-true, and_assoc}
+use mathlib.Core.List.{List, [], ◌∷◌}
 use mathlib.Core.Logic.{⊎_elim}
 use mathlib.Core.Path.{◌≡◌, refl, sym, ◌∙◌}
 use native.Mathlib.Omega.{arith}
 use native.Mathlib.Nat.{add-zero, zero-add, add-suc, suc-add}
 use native.Mathlib.Numerals.{add-one}
+use lib.ListN.{length, take, drop, get_or}
+use lib.Seq.{drop-cons, get_or-take, get_or-drop}
+use Rattle.std.specs.List.{list_all, fold, prefix_len}
+use Rattle.std.proofs.lemmas.List.{length-take, length-drop}
+use Rattle.std.proofs.lemmas.List.Elements.{All-get_or}
+use Rattle.std.proofs.lemmas.List.Sums.{AllPass-from_list_all}
+use Rattle.layout.specs.Bytes.{byte_at}
 use Rattle.layout.specs.Search.{some, find}
 use Rattle.layout.proofs.Laws.{lt-or-le}
-use Rattle.text.specs.Runs.{Skipped}
+use Rattle.text.specs.Runs.{fails, Skipped}
 
 -- ---- the test of some places as a whole
 
@@ -72,24 +80,40 @@ module _ (t : ℕ → Bool) where
   pub skipped_on : (from to i r : ℕ) → Skipped t from to i → Skipped t i to r → Skipped t from to r
   skipped_on from to i r so on = record { low = omega (arith, so.low, on.low); high = on.high; left = so.left ∙ on.left }
 
-  module _ (from to i : ℕ) (so : Skipped t from to i) (all : Bool) where
-    -- a block from i on
-    pub skipped_block : (n : ℕ) → i + n ≤ to → all ≡ not (some t i n) → all ≡ true → Skipped t from to (i + n)
-    skipped_block n h e g = record {
-      low = omega (arith, so.low);
-      high = h;
-      left = so.left ∙ find_past i (i + n) to (omega arith) h (tested n i all e g);
-    }
+-- ---- the code's words for a class of bytes
 
-    -- the last block, which ends with the run
-    pub skipped_last : (n : ℕ) → n ≤ to → to ≤ i + n → all ≡ not (some t (to - n) n) → all ≡ true → Skipped t from to to
-    skipped_last n h l e g = record {
-      low = omega (arith, so.low, so.high);
-      high = omega arith;
-      left = so.left ∙ find_past i to to so.high (omega arith) (λ k v w. tested n (to - n) all e g k (omega arith) (omega arith));
-    }
+module _ (test : ℕ → Bool) where
+  all_so_far : (xs : List ℕ) (all : Bool) → fold (λ a x. a && test x) all xs ≡ (all && list_all test xs)
+  all_so_far [] all = sym (and-true all)
+  all_so_far (x ∷ xs) all = all_so_far xs (all && test x) ∙ and_assoc all (test x) (list_all test xs)
 
-  -- a block by itself, then blocks of one width, then of another
-  pub skipped_run : (from to n w r : ℕ) (all : Bool) → from + n ≤ to → all ≡ not (some t from n) → all ≡ true → Skipped t (from + n) to w → Skipped t w to r → Skipped t from to r
-  skipped_run from to n w r all h e g wide narrow =
-      skipped_on from to (from + n) r (skipped_block from to from (skipped_first from to (omega arith)) all n h e g) (skipped_on (from + n) to w r wide narrow)
+  module _ (b : List ℕ) where
+    -- the bytes of from..to, tested as a whole
+    module _ (from to : ℕ) (all : Bool) (e : all ≡ fold (λ a x. a && test x) true (take (to - from) (drop from b))) (g : all ≡ true) (l : to ≤ length b) where
+      pub passed : (k : ℕ) → from ≤ k → k < to → fails test b k ≡ false
+      unfolding fails byte_at
+      passed k h u =
+          let q : from + (k - from) ≡ k = omega arith in
+          let long : k - from < length (take (to - from) (drop from b)) = simp (length-take, length-drop) (omega arith) in
+          let each = AllPass-from_list_all test (take (to - from) (drop from b)) (sym (all_so_far (take (to - from) (drop from b)) true) ∙ sym e ∙ g) in
+          let one = All-get_or (λ x. test x ≡ true) (take (to - from) (drop from b)) (k - from) 0 long each in
+          rw (← q, ← get_or-drop from b (k - from) 0, ← get_or-take (to - from) (drop from b) (k - from) 0 (omega arith), one)
+
+      -- a search goes on behind them
+      pub skipped_block : (start i end : ℕ) → Skipped (fails test b) start end i → from ≤ i → i ≤ to → to ≤ end → Skipped (fails test b) start end to
+      skipped_block start i end so h u v = record {
+        low = omega (arith, so.low);
+        high = v;
+        left = so.left ∙ find_past (fails test b) i to end u v (λ k m n. passed k (omega arith) n);
+      }
+
+    -- the first that is not of the class
+    pub found : (n i : ℕ) → i + n ≤ length b → find (fails test b) i n ≡ i + prefix_len test (take n (drop i b))
+    unfolding find fails byte_at
+    found zero i h = omega arith
+    found (suc n) i h = rw (drop-cons b i 0 (omega arith)) (go (test (get_or b i 0)) (found n (suc i) (omega arith)))
+      where
+        go : (u : Bool) → find (fails test b) (suc i) n ≡ suc i + prefix_len test (take n (drop (suc i) b))
+            → cond (not u) i (find (fails test b) (suc i) n) ≡ i + cond u (1 + prefix_len test (take n (drop (suc i) b))) 0
+        go true e = omega arith
+        go false e = omega arith

@@ -1,142 +1,146 @@
-// Header text (document 01, "Header text"): runs of blanks, plain bytes and digits, names, and decimal numbers, read at a place of the lent bytes.
+// Header text (document 01, "Header text"): runs of blanks, plain bytes and digits, names, and decimal numbers, read at a place of the lent bytes. These are
+// lent whole, with the places between which they are looked at, since what is refused is answered by its place in the product.
 #![tactic(auto)]
 
-ghost use Rattle.std.specs.Prelude.{◌≡◌, ◌+◌, ◌*◌, ◌-◌, ◌^◌, ◌<◌, ◌≤◌, not, T, length};
+ghost use Rattle.std.specs.Prelude.{ℕ, Bool, true, ◌&&◌, ◌≡◌, ◌+◌, ◌*◌, ◌-◌, ◌^◌, ◌<◌, ◌≤◌, not, T, length};
+ghost use lib.Pointwise.{pointwise};
+ghost use lib.Dec.{eqb};
+ghost use Rattle.std.specs.List.{fold, prefix_len};
 ghost use Rattle.layout.specs.Bytes.{part};
-ghost use Rattle.layout.specs.Search.{some, find};
+ghost use Rattle.layout.specs.Search.{find};
 ghost use Rattle.layout.specs.Entries.{called};
 ghost use Rattle.layout.specs.Text.{exactly, plain, digit, fits, digits};
 ghost use Rattle.text.specs.Blanks.{not_blank};
 ghost use Rattle.text.specs.Runs.{fails, Skipped};
 ghost use Rattle.text.specs.Numbers.{AllDigits, capped, with_byte, number_in, whole_in};
 
-// A run of blanks or of plain bytes has four functions. `.._in` tests some bytes as a whole, without an exit, so that they are tested side by side;
-// `.._blocks` goes over whole blocks with it, of blanks over one more that ends with the run, and answers a place up to which all is good; `.._run` goes over
-// a block of 16 alone, so that a short run pays for no more, over blocks of 96, and over blocks of 16 again; and the search goes byte by byte from there. Of
-// 96 the compiler keeps a loop that it can turn into six wide tests and one exit, where it takes 64 apart. Digits have no blocks: a run of them is short.
-fn blanks_in(p: &[u8], at: usize, n: usize) -> bool
-    requires { at + n ≤ length p.now }
-    ensures { result ≡ not (some (not_blank p.now) at n) }
-{
-    let mut all = true;
-    let mut i = 0;
-    while i < n {
-        all = all & (p[at + i] == 32);
-        i += 1;
-    }
-    all
+// A class of bytes; the types that are classes are never made. A search for the first byte that is not of it goes over whole blocks, each tested without an
+// exit, up to a place before which all is good, and byte by byte from there.
+pub trait ByteClass {
+    ghost test: { ℕ → Bool };
+
+    // Whether blocks are followed by one more, which ends with the run and so overlaps the one before it.
+    const OVERLAPS: bool = false;
+
+    fn holds(byte: u8) -> bool
+        ensures { result ≡ test byte };
 }
 
-fn blank_blocks(p: &[u8], from: usize, to: usize, block: usize) -> usize
-    requires { (from ≤ to) × (to ≤ length p.now) × (1 ≤ block) }
-    ensures { Skipped (not_blank p.now) from to result }
+struct Blank;
+
+#[tactic(auto, unfolding(layout::specs::Text::fits))]
+impl ByteClass for Blank {
+    ghost test = { fits (exactly 32) };
+
+    const OVERLAPS: bool = true;
+
+    fn holds(byte: u8) -> bool {
+        byte == 32
+    }
+}
+
+struct Plain;
+
+#[tactic(auto, unfolding(layout::specs::Text::fits))]
+impl ByteClass for Plain {
+    ghost test = { fits plain };
+
+    fn holds(byte: u8) -> bool {
+        is_plain(byte)
+    }
+}
+
+struct Digit;
+
+#[tactic(auto, unfolding(layout::specs::Text::fits))]
+impl ByteClass for Digit {
+    ghost test = { fits digit };
+
+    fn holds(byte: u8) -> bool {
+        (48 <= byte) & (byte <= 57)
+    }
+}
+
+struct Zero;
+
+#[tactic(auto, unfolding(layout::specs::Text::fits))]
+impl ByteClass for Zero {
+    ghost test = { fits (exactly 48) };
+
+    fn holds(byte: u8) -> bool {
+        byte == 48
+    }
+}
+
+// All of these bytes are of the class: without an exit, so that they are tested side by side.
+fn all_in<C: ByteClass>(bytes: &[u8]) -> bool
+    ensures { result ≡ fold (λ all x. all && C.test x) true bytes.now }
 {
-    if to - from < block {
+    bytes.iter().fold(true, |all, x| all & C::holds(*x))
+}
+
+// A place up to which whole blocks of N bytes are of the class. The loop is a `while`: it goes on by a block, and where one fails its place is the answer.
+pub fn blocks<C: ByteClass, const N: usize>(p: &[u8], from: usize, to: usize) -> usize
+    requires { (from ≤ to) × (to ≤ length p.now) × (1 ≤ N) }
+    ensures { Skipped (fails C.test p.now) from to result }
+{
+    if to - from < N {
         return from;
     }
     let mut i = from;
-    while block < to - i {
-        if !blanks_in(p, i, block) {
+    while N < to - i {
+        if !all_in::<C>(&p[i..i + N]) {
             return i;
         }
-        i += block;
+        i += N;
     }
-    if blanks_in(p, to - block, block) {
-        return to;
+    if C::OVERLAPS | (to - i == N) {
+        if all_in::<C>(&p[to - N..to]) {
+            return to;
+        }
     }
     i
 }
 
-fn blank_run(p: &[u8], from: usize, to: usize) -> usize
+// A block of 16 alone, so that a short run pays for no more, then blocks of 96, and blocks of 16 again. Of 96 the compiler keeps a loop that it can turn
+// into six wide tests and one exit, where it takes 64 apart.
+fn run<C: ByteClass>(p: &[u8], from: usize, to: usize) -> usize
     requires { (from ≤ to) × (to ≤ length p.now) }
-    ensures { Skipped (not_blank p.now) from to result }
+    ensures { Skipped (fails C.test p.now) from to result }
 {
     if to - from < 16 {
         return from;
     }
-    if !blanks_in(p, from, 16) {
+    if !all_in::<C>(&p[from..from + 16]) {
         return from;
     }
-    let wide = blank_blocks(p, from + 16, to, 96);
-    blank_blocks(p, wide, to, 16)
+    let wide = blocks::<C, 96>(p, from + 16, to);
+    blocks::<C, 16>(p, wide, to)
+}
+
+// How many bytes at the front are of the class.
+fn front<C: ByteClass>(bytes: &[u8]) -> usize
+    ensures { (result ≡ prefix_len C.test bytes.now) × (result ≤ length bytes.now) }
+{
+    bytes.iter().take_while(|x| C::holds(**x)).count()
+}
+
+// The first place in `from..to` whose byte is not of the class, or `to`, as layout's `find` has it: byte by byte.
+#[tactic(auto, using(crate::proofs::Runs::found))]
+pub fn first_not<C: ByteClass>(p: &[u8], from: usize, to: usize) -> usize
+    requires { (from ≤ to) × (to ≤ length p.now) }
+    ensures { result ≡ find (fails C.test p.now) from (to - from) }
+{
+    from + front::<C>(&p[from..to])
 }
 
 // The first place in `from..to` whose byte is not a blank, or `to`.
+#[tactic(auto, unfolding(crate::specs::Blanks::not_blank, crate::specs::Runs::fails, layout::specs::Text::fits))]
 pub fn first_not_blank(p: &[u8], from: usize, to: usize) -> usize
     requires { (from ≤ to) × (to ≤ length p.now) }
     ensures { result ≡ find (not_blank p.now) from (to - from) }
 {
-    let mut i = blank_run(p, from, to);
-    while i < to {
-        if p[i] != 32 {
-            return i;
-        }
-        i += 1;
-    }
-    to
-}
-
-// The 28 bytes from `start` on are this name, padded with blanks.
-pub fn is_called(p: &[u8], start: usize, name: &[u8]) -> bool
-    requires { (start + 28 ≤ length p.now) × (length name.now ≤ 28) }
-    ensures { result ≡ called (part p.now start 28) name.now }
-{
-    let mut i = 0;
-    while i < name.len() {
-        if p[start + i] != name[i] {
-            return false;
-        }
-        i += 1;
-    }
-    first_not_blank(p, start + i, start + 28) == start + 28
-}
-
-// A byte of q or c: 32 to 126, never 34.
-pub fn is_plain(x: u8) -> bool
-    ensures { result ≡ fits plain x }
-{
-    ((32 <= x) & (x <= 126)) & (x != 34)
-}
-
-fn plain_in(p: &[u8], at: usize, n: usize) -> bool
-    requires { at + n ≤ length p.now }
-    ensures { result ≡ not (some (fails (fits plain) p.now) at n) }
-{
-    let mut all = true;
-    let mut i = 0;
-    while i < n {
-        all = all & is_plain(p[at + i]);
-        i += 1;
-    }
-    all
-}
-
-fn plain_blocks(p: &[u8], from: usize, to: usize, block: usize) -> usize
-    requires { (from ≤ to) × (to ≤ length p.now) × (1 ≤ block) }
-    ensures { Skipped (fails (fits plain) p.now) from to result }
-{
-    let mut i = from;
-    while block <= to - i {
-        if !plain_in(p, i, block) {
-            return i;
-        }
-        i += block;
-    }
-    i
-}
-
-fn plain_run(p: &[u8], from: usize, to: usize) -> usize
-    requires { (from ≤ to) × (to ≤ length p.now) }
-    ensures { Skipped (fails (fits plain) p.now) from to result }
-{
-    if to - from < 16 {
-        return from;
-    }
-    if !plain_in(p, from, 16) {
-        return from;
-    }
-    let wide = plain_blocks(p, from + 16, to, 96);
-    plain_blocks(p, wide, to, 16)
+    first_not::<Blank>(p, run::<Blank>(p, from, to), to)
 }
 
 // The first place in `from..to` whose byte is not of a q, or `to`.
@@ -144,48 +148,40 @@ pub fn first_not_plain(p: &[u8], from: usize, to: usize) -> usize
     requires { (from ≤ to) × (to ≤ length p.now) }
     ensures { result ≡ find (fails (fits plain) p.now) from (to - from) }
 {
-    let mut i = plain_run(p, from, to);
-    while i < to {
-        if !is_plain(p[i]) {
-            return i;
-        }
-        i += 1;
-    }
-    to
+    first_not::<Plain>(p, run::<Plain>(p, from, to), to)
 }
 
-fn is_digit(x: u8) -> bool
-    ensures { result ≡ fits digit x }
-{
-    (48 <= x) & (x <= 57)
-}
-
-fn digits_in(p: &[u8], at: usize, n: usize) -> bool
-    requires { at + n ≤ length p.now }
-    ensures { result ≡ not (some (fails (fits digit) p.now) at n) }
-{
-    let mut all = true;
-    let mut i = 0;
-    while i < n {
-        all = all & is_digit(p[at + i]);
-        i += 1;
-    }
-    all
-}
-
-// The first place in `from..to` whose byte is not a digit, or `to`.
+// The first place in `from..to` whose byte is not a digit, or `to`. A run of digits is short: there are no blocks.
 pub fn first_not_digit(p: &[u8], from: usize, to: usize) -> usize
     requires { (from ≤ to) × (to ≤ length p.now) }
     ensures { result ≡ find (fails (fits digit) p.now) from (to - from) }
 {
-    let mut i = from;
-    while i < to {
-        if !is_digit(p[i]) {
-            return i;
-        }
-        i += 1;
-    }
-    to
+    first_not::<Digit>(p, from, to)
+}
+
+// The same bytes. The library's `==` reads four at once before it compares, and took up to twice as long: mostly the first byte of a name is another.
+fn same(bytes: &[u8], name: &[u8]) -> bool
+    ensures { result ≡ pointwise eqb bytes.now name.now }
+{
+    bytes.iter().eq(name)
+}
+
+// The 28 bytes from `start` on are this name, padded with blanks.
+#[tactic(auto, using(crate::proofs::Names::name_is))]
+pub fn is_called(p: &[u8], start: usize, name: &[u8]) -> bool
+    requires { (start + 28 ≤ length p.now) × (length name.now ≤ 28) }
+    ensures { result ≡ called (part p.now start 28) name.now }
+{
+    let end = start + name.len();
+    same(&p[start..end], name) && first_not_blank(p, end, start + 28) == start + 28
+}
+
+// A byte of q or c: 32 to 126, never 34.
+#[tactic(auto, unfolding(layout::specs::Text::fits))]
+pub fn is_plain(x: u8) -> bool
+    ensures { result ≡ fits plain x }
+{
+    ((32 <= x) & (x <= 126)) & (x != 34)
 }
 
 // A sign and a magnitude as they stand. The magnitude 2^63 stands for everything above 2^63 - 1.
@@ -197,6 +193,7 @@ pub struct Number {
 
 impl Number {
     // The value; minus zero is zero.
+    #[tactic(auto, using(crate::proofs::Numbers::minus_whole, crate::proofs::Numbers::plus_whole))]
     pub fn whole(self) -> i64
         requires { self.magnitude < 9223372036854775808 }
         ensures { result ≡ whole_in self }
@@ -217,6 +214,7 @@ fn digit_of(x: u8) -> u64
 }
 
 // One byte more behind a magnitude, which is held at 2^63. The point is passed over.
+#[tactic(auto, unfolding(crate::specs::Numbers::capped, crate::specs::Numbers::with_byte))]
 fn with_byte(magnitude: u64, x: u8) -> u64
     requires { magnitude ≤ 9223372036854775808 }
     ensures { result ≡ capped (with_byte magnitude x) }
@@ -235,20 +233,20 @@ fn with_byte(magnitude: u64, x: u8) -> u64
 }
 
 // The magnitude of the digits in `from..to`, with or without a point, held at 2^63: byte by byte.
+#[tactic(auto, using(crate::proofs::Numbers::capped_most, crate::proofs::Numbers::digit_next, crate::proofs::Numbers::digits_end), unfolding(layout::specs::Bytes::part))]
 fn digits_at(p: &[u8], from: usize, to: usize) -> u64
     requires { (from ≤ to) × (to ≤ length p.now) }
     ensures { result ≡ capped (digits 0 (part p.now from (to - from))) }
 {
     let mut magnitude: u64 = 0;
-    let mut digit = from;
-    while digit < to {
-        magnitude = with_byte(magnitude, p[digit]);
-        digit += 1;
+    for x in &p[from..to] {
+        magnitude = with_byte(magnitude, *x);
     }
     magnitude
 }
 
 // What a digit counts.
+#[tactic(auto, using(crate::proofs::Tests::digit_bounds))]
 fn value_of(x: u8) -> u64
     requires { T (fits digit x) }
     ensures { (result ≡ x - 48) × (result < 10) }
@@ -256,6 +254,7 @@ fn value_of(x: u8) -> u64
     x as u64 - 48
 }
 
+#[tactic(auto, using(crate::proofs::Numbers::pair_is), unfolding(layout::specs::Bytes::byte_at))]
 pub fn two_digits(p: &[u8], at: usize) -> u64
     requires { (at + 2 ≤ length p.now) × AllDigits p.now at 2 }
     ensures { (result ≡ digits 0 (part p.now at 2)) × (result < 10 ^ 2) }
@@ -264,6 +263,7 @@ pub fn two_digits(p: &[u8], at: usize) -> u64
 }
 
 // Ten digits, which need no cap: in pairs, which do not wait for each other.
+#[tactic(auto, using(crate::proofs::Numbers::pairs_are))]
 fn ten_digits(p: &[u8], at: usize) -> u64
     requires { (at + 10 ≤ length p.now) × AllDigits p.now at 10 }
     ensures { (result ≡ digits 0 (part p.now at 10)) × (result < 10 ^ 10) }
@@ -273,31 +273,18 @@ fn ten_digits(p: &[u8], at: usize) -> u64
     high * 10000 + low
 }
 
-fn zeros_in(p: &[u8], at: usize, n: usize) -> bool
-    requires { at + n ≤ length p.now }
-    ensures { result ≡ not (some (fails (fits (exactly 48)) p.now) at n) }
-{
-    let mut all = true;
-    let mut i = 0;
-    while i < n {
-        all = all & (p[at + i] == 48);
-        i += 1;
-    }
-    all
-}
-
 // The same magnitude: at once of ten digits, and of twenty that begin with ten zeros, as the size and offset of every set do that holds bytes of a product.
 fn magnitude_at(p: &[u8], from: usize, to: usize) -> u64
     requires { (from ≤ to) × (to ≤ length p.now) }
     ensures { result ≡ capped (digits 0 (part p.now from (to - from))) }
 {
     if to - from == 20 {
-        if zeros_in(p, from, 10) & digits_in(p, from + 10, 10) {
+        if all_in::<Zero>(&p[from..from + 10]) & all_in::<Digit>(&p[from + 10..from + 20]) {
             return ten_digits(p, from + 10);
         }
     }
     if to - from == 10 {
-        if digits_in(p, from, 10) {
+        if all_in::<Digit>(&p[from..from + 10]) {
             return ten_digits(p, from);
         }
     }

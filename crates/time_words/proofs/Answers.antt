@@ -3,30 +3,28 @@
 use Prim.Native.Nat.{ℕ}
 use mathlib.Core.List.{List, [], ◌∷◌}
 use mathlib.Core.Path.{◌≡◌, refl, sym, subst}
-use lib.ListN.{length}
+use lib.ListN.{length, replicate}
+use Rattle.std.specs.Prelude.{Option, Some, None, Result, Ok, Err}
 use Rattle.layout.specs.Answer.{Reply, refusal, is}
 use Rattle.layout.specs.declared.Refusal.{Refusal}
 use Rattle.layout.specs.declared.Time.{Time}
-use Rattle.layout.specs.Answers.{verdict_is}
 use Rattle.words.specs.Words.{word, verdict_words}
 use Rattle.words.specs.Lent.{TwoRooms}
-use Rattle.times.specs.declared.TimeAnswer.{TimeAnswer}
-use Rattle.times.specs.declared.TimeAnswer.TheVariants as answers
-use Rattle.times.specs.declared.TimeText.{TimeText}
-use Rattle.times.specs.Times.{Said, given, not_given, time_answer_is, TextAnswer}
+use Rattle.times.specs.Times.{Said, given, not_given, time_answer_is, text_bytes, TextAnswer, said_by}
+use Rattle.layout.specs.Answers.{verdict_is, reply_is}
 use Rattle.time_words.specs.TimeWords.{said_words, time_words, TextRooms}
 
-pub refused_words : (a : TimeAnswer) (r : Refusal) → a ≡ answers.Refused r → r.number ∷ r.place ∷ r.entry ∷ 0 ∷ 0 ∷ 0 ∷ 0 ∷ [] ≡ time_words (time_answer_is a)
-unfolding time_words time_answer_is
+pub refused_words : (a : Result (Option Time) Refusal) (r : Refusal) → a ≡ Err r → r.number ∷ r.place ∷ r.entry ∷ 0 ∷ 0 ∷ 0 ∷ 0 ∷ [] ≡ time_words (time_answer_is a)
+unfolding time_words reply_is said_by
 refused_words a r h = rw h
 
-pub blank_words : (a : TimeAnswer) → a ≡ answers.NotGiven → 0 ∷ 0 ∷ 0 ∷ 2 ∷ 0 ∷ 0 ∷ 0 ∷ [] ≡ time_words (time_answer_is a)
-unfolding time_words said_words time_answer_is
+pub blank_words : (a : Result (Option Time) Refusal) → a ≡ Ok None → 0 ∷ 0 ∷ 0 ∷ 2 ∷ 0 ∷ 0 ∷ 0 ∷ [] ≡ time_words (time_answer_is a)
+unfolding time_words said_words reply_is said_by
 blank_words a h = rw h
 
-pub given_words : (a : TimeAnswer) (t : Time) (days : ℕ) → a ≡ answers.Is t → days ≡ word t.days
+pub given_words : (a : Result (Option Time) Refusal) (t : Time) (days : ℕ) → a ≡ Ok (Some t) → days ≡ word t.days
     → 0 ∷ 0 ∷ 0 ∷ 1 ∷ days ∷ t.seconds ∷ t.microseconds ∷ [] ≡ time_words (time_answer_is a)
-unfolding time_words said_words time_answer_is
+unfolding time_words said_words reply_is said_by
 given_words a t days h e = rw (h, e)
 
 pub time_seven : (a : Reply Said) → length (time_words a) ≡ 7
@@ -35,9 +33,21 @@ time_seven (refusal n p e) = refl
 time_seven (is (given t)) = refl
 time_seven (is not_given) = refl
 
+-- the words and bytes of each case of a text
+module _ {words words' text text' : List ℕ} {r : ℕ} (a : Result (List ℕ) Refusal) where
+  pub accepted_text : (bytes : List ℕ) → a ≡ Ok bytes → TwoRooms (0 ∷ 0 ∷ 0 ∷ []) words words' bytes text text' r
+      → TwoRooms (verdict_words (verdict_is a)) words words' (text_bytes a) text text' r
+  unfolding verdict_words verdict_is text_bytes
+  accepted_text bytes h put = rw h put
+
+  pub refused_text : (f : Refusal) → a ≡ Err f → TwoRooms (f.number ∷ f.place ∷ f.entry ∷ []) words words' (replicate 27 0) text text' r
+      → TwoRooms (verdict_words (verdict_is a)) words words' (text_bytes a) text text' r
+  unfolding verdict_words verdict_is text_bytes
+  refused_text f h put = rw h put
+
 -- a text put whole is what the time's text leaves
-pub text-rooms : {s : Time} (t : Time) (a : TimeText) {words words' text text' : List ℕ} {r : ℕ} → s ≡ t → TextAnswer s a
-    → TwoRooms (verdict_words (verdict_is a.verdict)) words words' a.text text text' r → TextRooms t words words' text text' r
+pub text-rooms : {s : Time} (t : Time) (a : Result (List ℕ) Refusal) {words words' text text' : List ℕ} {r : ℕ} → s ≡ t → TextAnswer s a
+    → TwoRooms (verdict_words (verdict_is a)) words words' (text_bytes a) text text' r → TextRooms t words words' text text' r
 text-rooms t a e asked put =
     let h = subst (λ (u : Time). TextAnswer u a) e asked in
-    record { bytes = a.text; are = h.text; rooms = rw (sym h.verdict) put }
+    record { bytes = text_bytes a; are = h.text; rooms = rw (sym h.verdict) put }

@@ -2,28 +2,28 @@
 #![tactic(auto)]
 
 ghost use Rattle.std.specs.Prelude.{◌≤◌, length};
-ghost use Rattle.layout.specs.Answers.{verdict_is};
 ghost use Rattle.writing.specs.Put.{Put};
 ghost use Rattle.words.specs.Words.{verdict_words};
 ghost use Rattle.words.specs.Lent.{TwoRooms};
-ghost use Rattle.times.specs.Times.{time_answer_is};
+ghost use Rattle.layout.specs.Answers.{verdict_is};
+ghost use Rattle.times.specs.Times.{time_answer_is, text_bytes};
 ghost use Rattle.time_words.specs.TimeWords.{time_words};
 
-use times::{TimeAnswer, TimeText};
-use words::{ROOM_TOO_SHORT, WRITTEN, put_refusal, put_verdict, put_words, word_of};
+use layout::{Refusal, Time};
+use words::{ROOM_TOO_SHORT, WRITTEN, put_refusal, put_words, word_of};
 use writing::put_text;
 
-pub fn put_time(room: &mut [u64], answer: TimeAnswer) -> usize
+pub fn put_time(room: &mut [u64], answer: Result<Option<Time>, Refusal>) -> usize
     requires { 7 ≤ length room.old }
     ensures { Put 7 (time_words (time_answer_is answer)) room.old room.new 0 result }
 {
     match answer {
-        TimeAnswer::Refused(refusal) => {
+        Err(refusal) => {
             let next = put_refusal(room, refusal);
             put_words(room, next, &[0, 0, 0, 0])
         }
-        TimeAnswer::NotGiven => put_words(room, 0, &[0, 0, 0, 2, 0, 0, 0]),
-        TimeAnswer::Is(time) => {
+        Ok(None) => put_words(room, 0, &[0, 0, 0, 2, 0, 0, 0]),
+        Ok(Some(time)) => {
             let days = word_of(time.days as i64);
             let words = [
                 0,
@@ -39,17 +39,27 @@ pub fn put_time(room: &mut [u64], answer: TimeAnswer) -> usize
     }
 }
 
-// The verdict's words and the text's bytes, where both have room.
-pub fn put_whole_text(answer: TimeText, words: &mut [u64], text: &mut [u8]) -> u32
-    ensures { TwoRooms (verdict_words (verdict_is answer.verdict)) words.old words.new answer.text text.old text.new result }
+// Words and bytes, where both have room.
+fn put_both(verdict: &[u64; 3], bytes: &[u8; 27], words: &mut [u64], text: &mut [u8]) -> u32
+    ensures { TwoRooms verdict.now words.old words.new bytes.now text.old text.new result }
 {
-    if words.len() < 3 {
+    if words.len() < 3 || text.len() < 27 {
         return ROOM_TOO_SHORT;
     }
-    if text.len() < 27 {
-        return ROOM_TOO_SHORT;
-    }
-    put_verdict(words, answer.verdict);
-    put_text(text, 0, &answer.text);
+    put_words(words, 0, verdict);
+    put_text(text, 0, bytes);
     WRITTEN
+}
+
+// The verdict's words and the text's bytes, where both have room.
+pub fn put_whole_text(answer: Result<[u8; 27], Refusal>, words: &mut [u64], text: &mut [u8]) -> u32
+    ensures { TwoRooms (verdict_words (verdict_is answer)) words.old words.new (text_bytes answer) text.old text.new result }
+{
+    match answer {
+        Ok(bytes) => put_both(&[0; 3], &bytes, words, text),
+        Err(refusal) => {
+            let verdict = [refusal.number as u64, refusal.place, refusal.entry as u64];
+            put_both(&verdict, &[0; 27], words, text)
+        }
+    }
 }

@@ -7,20 +7,18 @@ use mathlib.Core.Path.{◌≡◌, refl, sym, ap, ◌∙◌}
 use native.Mathlib.Omega.{arith}
 use lib.Dec.{T}
 use lib.IntN.{ℤ}
-use lib.ListN.{replicate}
 use mir.Syntax.{w32}
 use mir.Val.{SFits, to_z, of_z}
 use mir.Facts.{to_z-of_z}
-use Rattle.layout.specs.Answer.{accepted, refused, is}
-use Rattle.layout.specs.Answers.{verdict_is}
+use Rattle.std.specs.Prelude.{Ok, Err}
+use Rattle.layout.specs.Answer.{is}
 use Rattle.layout.specs.declared.Time.{Time}
-use Rattle.layout.specs.declared.Verdict.{Verdict}
-use Rattle.layout.specs.declared.Verdict.TheVariants as verdict-cases
 use Rattle.layout.proofs.Tests.{is_true}
 use Rattle.times.specs.declared.Moment.{Moment}
-use Rattle.times.specs.Times.{valid_moment, time_of, text_of, moment_in, given, time_of_text, valid_time, TextAnswer}
+use Rattle.times.specs.Times.{valid_moment, time_of, text_of, moment_in, given, time_of_text, valid_time, text_bytes, TextAnswer}
 use Rattle.times.proofs.Written.{text-long, is-formed, moment_back}
 use Rattle.times.proofs.Moments.{Valid, valid, valid_day}
+use Rattle.layout.specs.Answers.{verdict_is}
 use Rattle.times.proofs.Said.{told, said_time}
 
 -- a valid moment is read again from its text
@@ -40,16 +38,14 @@ text_says m h =
 pub time-kept : (z : ℤ) (s u : ℕ) → SFits w32 z → ◌≡◌ {A = Time} (record { days = to_z w32 (of_z w32 z); seconds = s; microseconds = u }) (record { days = z; seconds = s; microseconds = u })
 time-kept z s u f = λ j. record { days = to_z-of_z f j; seconds = s; microseconds = u }
 
-is-accepted : verdict_is verdict-cases.Accepted ≡ accepted
-unfolding verdict_is
-is-accepted = refl
-
 module _ (t : Time) where
-  pub refused-text : (v : Verdict) → verdict_is v ≡ refused 31 0 128 → valid_time t ≡ false → TextAnswer t (record { verdict = v; text = replicate 27 0 })
-  refused-text v e h = record { verdict = rw (h, e); text = record { says = λ k. absurd (false≢true (sym h ∙ is_true (valid_time t) k)); none = λ k. refl } }
+  pub refused-text : valid_time t ≡ false → TextAnswer t (Err (record { number = 31; place = 0; entry = 128 }))
+  unfolding verdict_is text_bytes
+  refused-text h = record { verdict = rw h; text = record { says = λ k. absurd (false≢true (sym h ∙ is_true (valid_time t) k)); none = λ k. refl } }
 
-  pub given-text : (m : Moment) (text : List ℕ) → T (valid_time t) → T (valid_moment m) → time_of m ≡ t → text ≡ text_of m → TextAnswer t (record { verdict = verdict-cases.Accepted; text = text })
+  pub given-text : (m : Moment) (text : List ℕ) → T (valid_time t) → T (valid_moment m) → time_of m ≡ t → text ≡ text_of m → TextAnswer t (Ok text)
+  unfolding verdict_is text_bytes
   given-text m text h v e f = record {
-    verdict = rw (is_true (valid_time t) h, is-accepted);
+    verdict = rw (is_true (valid_time t) h);
     text = record { says = λ k. ap time_of_text f ∙ text_says m v ∙ ap (λ (s : Time). is (given s)) e; none = λ k. absurd (false≢true (sym k ∙ is_true (valid_time t) h)) };
   }

@@ -1,20 +1,20 @@
--- What bytes are short of, put together: none of them is, or some place is misplaced.
+-- What bytes are short of, put together: none of them is, or some byte is outside its bounds.
 -- Assumes nothing.
-use Prim.Native.Nat.{ℕ, ◌+◌, ◌-◌, ◌≤◌, ◌<◌}
+use Prim.Native.Nat.{ℕ, zero, suc, ◌+◌, ◌-◌, ◌≤◌, ◌<◌}
 use mathlib.Core.Bool.{Bool, true, false, ◌&&◌, ◌||◌, not, and-false}
 use mathlib.Core.Logic.{◌⊎◌, inl, inr}
 use mathlib.Core.List.{List}
 use mathlib.Core.Path.{◌≡◌, refl, sym, ◌∙◌}
-use native.Mathlib.Nat.{zero-add}
+use native.Mathlib.Nat.{add-zero, zero-add, add-suc, suc-add}
 use native.Mathlib.Omega.{arith}
 use lib.Bits.{bit_or, or_add_and, and_le_l, and_le_r}
 use lib.Dec.{leb, eqb}
 use borrow.Author.Tests.{le-leb, lt-leb, eq-eqb, ne_eqb}
-use Rattle.layout.specs.Bytes.{part, byte_at, within}
+use Rattle.layout.specs.Bytes.{byte_at, within}
 use Rattle.layout.specs.Search.{some}
 use Rattle.layout.proofs.Laws.{not-not, lt-or-le}
-use Rattle.text.proofs.Runs.{all_none, all_more, all_end}
-use Rattle.times.specs.Formed.{lowest, highest, outside, misplaced}
+use Rattle.text.proofs.Runs.{all_more}
+use Rattle.times.specs.Formed.{lowest, highest, outside}
 
 -- ---- nothing, put together of two, is nothing of either
 
@@ -36,44 +36,50 @@ short_none least x = go (lt-or-le x least)
     go (inl l) = rw (lt-leb least x l) (ne_eqb (least - x) 0 (λ e. omega arith))
     go (inr l) = rw (le-leb least x l) (eq-eqb (least - x) 0 (omega arith))
 
--- ---- the places so far
+pub place_short : (t : List ℕ) (k : ℕ) {low high : ℕ} → low ≡ byte_at lowest k - byte_at t k → high ≡ byte_at t k - byte_at highest k
+    → eqb (bit_or low high) 0 ≡ not (outside t k)
+unfolding outside
+place_short t k {low} {high} e f =
+    or-none low high
+    ∙ rw (e, f, short_none (byte_at lowest k) (byte_at t k), short_none (byte_at t k) (byte_at highest k))
+    (sym (not-not (within (byte_at lowest k) (byte_at highest k) (byte_at t k))))
 
-module _ (t : List ℕ) where
-  pub none_short : eqb 0 0 ≡ not (some (misplaced t) 0 0)
-  none_short = all_none (misplaced t) 0
+-- ---- the places so far, of the first 16 and of the last
 
-  module _ (at i : ℕ) {low high : ℕ} (e : low ≡ byte_at (part lowest at 16) i - byte_at t (at + i)) (f : high ≡ byte_at t (at + i) - byte_at (part highest at 16) i) where
-    place_short : (eqb low 0 && eqb high 0) ≡ not (outside t at i)
-    unfolding outside
-    place_short =
-        rw (e, f, short_none (byte_at (part lowest at 16) i) (byte_at t (at + i)), short_none (byte_at t (at + i)) (byte_at (part highest at 16) i))
-        (sym (not-not (within (byte_at (part lowest at 16) i) (byte_at (part highest at 16) i) (byte_at t (at + i)))))
+abbrev pub none_outside : List ℕ → ℕ → Bool
+none_outside t i = not (some (outside t) 0 i) && not (some (outside t) 11 i)
 
-  neither : (a b : Bool) → (not a && not b) ≡ not (a || b)
-  neither true b = refl
-  neither false b = refl
+pub more_short : (t : List ℕ) (i short low high : ℕ) → eqb short 0 ≡ none_outside t i → eqb low 0 ≡ not (outside t i) → eqb high 0 ≡ not (outside t (11 + i))
+    → eqb (bit_or short (bit_or low high)) 0 ≡ none_outside t (i + 1)
+more_short t i short low high inv e f =
+    let first = all_more (outside t) 0 i (not (some (outside t) 0 i)) (eqb low 0) refl (e ∙ rw zero-add) in
+    let last = all_more (outside t) 11 i (not (some (outside t) 11 i)) (eqb high 0) refl f in
+    or-none short (bit_or low high)
+    ∙ rw (inv, or-none low high, regroup (not (some (outside t) 0 i)) (not (some (outside t) 11 i)) (eqb low 0) (eqb high 0), first, last)
+  where
+    regroup : (a b c d : Bool) → ((a && b) && (c && d)) ≡ ((a && c) && (b && d))
+    regroup true true c d = refl
+    regroup true false true d = refl
+    regroup true false false d = refl
+    regroup false b c d = refl
 
-  regroup : (all p q r s : Bool) → ((all && (p && q)) && (r && s)) ≡ (all && ((p && q) && (r && s)))
-  regroup true p q r s = refl
-  regroup false p q r s = refl
+-- ---- the first 16 places and the last are all
 
-  places : (i : ℕ) {s₁ s₂ s₃ s₄ : ℕ} → s₁ ≡ byte_at (part lowest 0 16) i - byte_at t i → s₂ ≡ byte_at t i - byte_at (part highest 0 16) i
-      → s₃ ≡ byte_at (part lowest 11 16) i - byte_at t (11 + i) → s₄ ≡ byte_at t (11 + i) - byte_at (part highest 11 16) i
-      → ((eqb s₁ 0 && eqb s₂ 0) && (eqb s₃ 0 && eqb s₄ 0)) ≡ not (misplaced t (0 + i))
-  unfolding misplaced
-  places i {s₁} {s₂} {s₃} {s₄} a b c d =
-      let z = zero-add i in
-      rw (z, place_short 0 i (a ∙ rw z) (b ∙ rw z), place_short 11 i c d) (neither (outside t 0 i) (outside t 11 i))
+some_join : (p : ℕ → Bool) (n i k : ℕ) → some p i (n + k) ≡ (some p i n || some p (i + n) k)
+unfolding some
+some_join p zero i k = rw (zero-add k, add-zero i)
+some_join p (suc n) i k = rw (suc-add n k, some_join p n (suc i) k, suc-add i n, add-suc i n) (go (p i) (some p (suc i) n) (some p (suc (i + n)) k))
+  where
+    go : (a b c : Bool) → (a || (b || c)) ≡ ((a || b) || c)
+    go true b c = refl
+    go false b c = refl
 
-  -- one place more of the first 16 and of the last
-  pub both_short : (i short : ℕ) → eqb short 0 ≡ not (some (misplaced t) 0 i) → {s₁ s₂ s₃ s₄ : ℕ}
-      → s₁ ≡ byte_at (part lowest 0 16) i - byte_at t i → s₂ ≡ byte_at t i - byte_at (part highest 0 16) i
-      → s₃ ≡ byte_at (part lowest 11 16) i - byte_at t (11 + i) → s₄ ≡ byte_at t (11 + i) - byte_at (part highest 11 16) i
-      → eqb (bit_or (bit_or short (bit_or s₁ s₂)) (bit_or s₃ s₄)) 0 ≡ not (some (misplaced t) 0 (i + 1))
-  both_short i short inv {s₁} {s₂} {s₃} {s₄} a b c d =
-      or-none (bit_or short (bit_or s₁ s₂)) (bit_or s₃ s₄)
-      ∙ rw (or-none short (bit_or s₁ s₂), or-none s₁ s₂, or-none s₃ s₄) (regroup (eqb short 0) (eqb s₁ 0) (eqb s₂ 0) (eqb s₃ 0) (eqb s₄ 0))
-      ∙ all_more (misplaced t) 0 i (eqb short 0) ((eqb s₁ 0 && eqb s₂ 0) && (eqb s₃ 0 && eqb s₄ 0)) inv (places i a b c d)
+overlap : (a b c : Bool) → (not (a || b) && not (b || c)) ≡ not ((a || b) || c)
+overlap true b c = refl
+overlap false true c = refl
+overlap false false c = refl
 
-  pub all_short : (i short : ℕ) → i ≤ 16 → 16 ≤ i → eqb short 0 ≡ not (some (misplaced t) 0 i) → eqb short 0 ≡ not (some (misplaced t) 0 16)
-  all_short i short l u e = all_end (misplaced t) 0 i 16 (eqb short 0) l u e
+pub all_short : (t : List ℕ) → none_outside t 16 ≡ not (some (outside t) 0 27)
+all_short t =
+    let p = outside t in
+    rw (some_join p 11 0 5, some_join p 5 11 11, some_join p 16 0 11, some_join p 11 0 5) (overlap (some p 0 11) (some p 11 5) (some p 16 11))

@@ -1,36 +1,36 @@
 -- The names of the months: where the code has their letters, and that it finds each month again from its letters.
 -- Assumes nothing.
-use Prim.Native.Nat.{ℕ, zero, suc, ◌+◌, ◌*◌, ◌-◌, ◌/◌, ◌%◌, ◌≤◌, ◌<◌}
+use Prim.Native.Nat.{ℕ, ◌+◌, ◌*◌, ◌≤◌, ◌<◌}
 use mathlib.Core.Bool.{Bool, true, false, ◌&&◌}
 use mathlib.Core.List.{List, [], ◌∷◌}
-use mathlib.Core.Logic.{◌⊎◌, inl, inr}
 use mathlib.Core.Path.{◌≡◌, refl, sym, ap, ◌∙◌}
 use native.Mathlib.Omega.{arith}
 use lib.Dec.{T, leb, eqb, eqb→eq, eqb_refl}
 use lib.ListN.{get_or}
+use mir.Syntax.{w32}
+use Rattle.std.specs.Int.{to_le_bytes}
 use Rattle.layout.specs.Bytes.{byte_at}
 use Rattle.layout.specs.Answer.{need, accepted}
 use Rattle.layout.specs.Search.{first, find}
-use Rattle.layout.proofs.Laws.{and_T, leb-T, lt-or-le, find_bounds, find_at, find_same}
+use Rattle.std.proofs.Common.{Decides}
+use Rattle.std.proofs.lemmas.Slice.Eq.{compares_Decides}
+use Rattle.layout.proofs.Tests.{is_true}
+use Rattle.layout.proofs.Laws.{and_T, leb-T, find_at, find_same}
 use Rattle.calendar.proofs.Days.{each_passes}
 use Rattle.times.specs.Times.{month_names, month_name, same_bytes, is_named, month_in}
 use Rattle.times.specs.Formed.{name_number, is_numbered, month_numbered}
 
 -- ---- equal bytes
 
-pub same_is : (a b : List ℕ) → T (same_bytes a b) → a ≡ b
+same_equal : (a b : List ℕ) → Decides (same_bytes a b) (a ≡ b)
 unfolding same_bytes
-same_is [] [] h = refl
-same_is [] (y ∷ b) h = absurd h
-same_is (x ∷ a) [] h = absurd h
-same_is (x ∷ a) (y ∷ b) h =
-    let r = (and_T (eqb x y) (same_bytes a b)).0 h in
-    λ j. eqb→eq x y r.0 j ∷ same_is a b r.1 j
+same_equal = compares_Decides same_bytes (record { empty = refl; shorter = λ y b. refl; longer = λ x a. refl; heads = λ x y a b. refl })
+
+pub same_is : (a b : List ℕ) → T (same_bytes a b) → a ≡ b
+same_is a b h = (same_equal a b).0 (is_true (same_bytes a b) h)
 
 pub is_same : (a : List ℕ) → T (same_bytes a a)
-unfolding same_bytes
-is_same [] = tt
-is_same (x ∷ a) = (and_T (eqb x x) (same_bytes a a)).1 (eqb_refl x, is_same a)
+is_same a = rw ((same_equal a a).1 refl) tt
 
 -- ---- three capitals
 
@@ -109,81 +109,15 @@ module _ (a b c : ℕ) (ha : a < 256) (hb : b < 256) (hc : c < 256) where
   unfolding month_numbered month_in
   month-numbered = find_same (is_numbered (a + 256 * b + 65536 * c)) (is_named (a ∷ b ∷ c ∷ [])) 1 12 (λ m l u. number-named m l (omega arith))
 
--- the months by their numbers
-abbrev numbers : List ℕ
-numbers = 5128522 ∷ 4343110 ∷ 5390669 ∷ 5394497 ∷ 5849421 ∷ 5133642 ∷ 5002570 ∷ 4674881 ∷ 5260627 ∷ 5522255 ∷ 5656398 ∷ 4408644 ∷ []
+-- the bytes of a name's number
+abbrev letters : ℕ → List ℕ
+letters m = byte_at (month_name m) 0 ∷ byte_at (month_name m) 1 ∷ byte_at (month_name m) 2 ∷ 0 ∷ []
 
-months_numbered : first (λ m. need (eqb (name_number (month_name m)) (get_or numbers (m - 1) 0)) 0 0 0) 1 12 ≡ accepted
-unfolding first name_number month_name month_names byte_at
-months_numbered = refl
+names_numbered : first (λ m. need (same_bytes (to_le_bytes w32 (name_number (month_name m))) (letters m)) 0 0 0) 1 12 ≡ accepted
+unfolding first same_bytes name_number month_name month_names byte_at
+names_numbered = refl
 
-pub month_number : (m : ℕ) → 1 ≤ m → m ≤ 12 → name_number (month_name m) ≡ get_or numbers (m - 1) 0
-month_number m l u =
-    eqb→eq (name_number (month_name m)) (get_or numbers (m - 1) 0)
-    (each_passes (λ m. eqb (name_number (month_name m)) (get_or numbers (m - 1) 0)) 1 12 months_numbered m l (omega arith))
-
-pub named-number : (m k : ℕ) → m ≡ k → 1 ≤ k → k ≤ 12 → name_number (month_name m) ≡ get_or numbers (k - 1) 0
-named-number m k e l u = rw e (month_number k l u)
-
--- no other is left
-pub last_month : (m : ℕ) → 1 ≤ m → m ≤ 12 → (m ≡ 1 → ⊥) → (m ≡ 2 → ⊥) → (m ≡ 3 → ⊥) → (m ≡ 4 → ⊥) → (m ≡ 5 → ⊥) → (m ≡ 6 → ⊥) → (m ≡ 7 → ⊥) → (m ≡ 8 → ⊥) → (m ≡ 9 → ⊥) → (m ≡ 10 → ⊥) → (m ≡ 11 → ⊥) → m ≡ 12
-last_month zero l u h1 h2 h3 h4 h5 h6 h7 h8 h9 h10 h11 = absurd (omega arith)
-last_month (suc zero) l u h1 h2 h3 h4 h5 h6 h7 h8 h9 h10 h11 = absurd (h1 refl)
-last_month (suc (suc zero)) l u h1 h2 h3 h4 h5 h6 h7 h8 h9 h10 h11 = absurd (h2 refl)
-last_month (suc (suc (suc zero))) l u h1 h2 h3 h4 h5 h6 h7 h8 h9 h10 h11 = absurd (h3 refl)
-last_month (suc (suc (suc (suc zero)))) l u h1 h2 h3 h4 h5 h6 h7 h8 h9 h10 h11 = absurd (h4 refl)
-last_month (suc (suc (suc (suc (suc zero))))) l u h1 h2 h3 h4 h5 h6 h7 h8 h9 h10 h11 = absurd (h5 refl)
-last_month (suc (suc (suc (suc (suc (suc zero)))))) l u h1 h2 h3 h4 h5 h6 h7 h8 h9 h10 h11 = absurd (h6 refl)
-last_month (suc (suc (suc (suc (suc (suc (suc zero))))))) l u h1 h2 h3 h4 h5 h6 h7 h8 h9 h10 h11 = absurd (h7 refl)
-last_month (suc (suc (suc (suc (suc (suc (suc (suc zero)))))))) l u h1 h2 h3 h4 h5 h6 h7 h8 h9 h10 h11 = absurd (h8 refl)
-last_month (suc (suc (suc (suc (suc (suc (suc (suc (suc zero))))))))) l u h1 h2 h3 h4 h5 h6 h7 h8 h9 h10 h11 = absurd (h9 refl)
-last_month (suc (suc (suc (suc (suc (suc (suc (suc (suc (suc zero)))))))))) l u h1 h2 h3 h4 h5 h6 h7 h8 h9 h10 h11 = absurd (h10 refl)
-last_month (suc (suc (suc (suc (suc (suc (suc (suc (suc (suc (suc zero))))))))))) l u h1 h2 h3 h4 h5 h6 h7 h8 h9 h10 h11 = absurd (h11 refl)
-last_month (suc (suc (suc (suc (suc (suc (suc (suc (suc (suc (suc (suc zero)))))))))))) l u h1 h2 h3 h4 h5 h6 h7 h8 h9 h10 h11 = refl
-last_month (suc (suc (suc (suc (suc (suc (suc (suc (suc (suc (suc (suc (suc m))))))))))))) l u h1 h2 h3 h4 h5 h6 h7 h8 h9 h10 h11 = absurd (omega arith)
-
--- twelve numbers, one by one
-pub twelve : (n : ℕ) → (n ≡ 5128522 → ⊥) → (n ≡ 4343110 → ⊥) → (n ≡ 5390669 → ⊥) → (n ≡ 5394497 → ⊥) → (n ≡ 5849421 → ⊥) → (n ≡ 5133642 → ⊥) → (n ≡ 5002570 → ⊥) → (n ≡ 4674881 → ⊥) → (n ≡ 5260627 → ⊥) → (n ≡ 5522255 → ⊥) → (n ≡ 5656398 → ⊥) → (n ≡ 4408644 → ⊥) → (k : ℕ) → k < 12 → n ≡ get_or numbers k 0 → ⊥
-twelve n h0 h1 h2 h3 h4 h5 h6 h7 h8 h9 h10 h11 zero u = h0
-twelve n h0 h1 h2 h3 h4 h5 h6 h7 h8 h9 h10 h11 (suc zero) u = h1
-twelve n h0 h1 h2 h3 h4 h5 h6 h7 h8 h9 h10 h11 (suc (suc zero)) u = h2
-twelve n h0 h1 h2 h3 h4 h5 h6 h7 h8 h9 h10 h11 (suc (suc (suc zero))) u = h3
-twelve n h0 h1 h2 h3 h4 h5 h6 h7 h8 h9 h10 h11 (suc (suc (suc (suc zero)))) u = h4
-twelve n h0 h1 h2 h3 h4 h5 h6 h7 h8 h9 h10 h11 (suc (suc (suc (suc (suc zero))))) u = h5
-twelve n h0 h1 h2 h3 h4 h5 h6 h7 h8 h9 h10 h11 (suc (suc (suc (suc (suc (suc zero)))))) u = h6
-twelve n h0 h1 h2 h3 h4 h5 h6 h7 h8 h9 h10 h11 (suc (suc (suc (suc (suc (suc (suc zero))))))) u = h7
-twelve n h0 h1 h2 h3 h4 h5 h6 h7 h8 h9 h10 h11 (suc (suc (suc (suc (suc (suc (suc (suc zero)))))))) u = h8
-twelve n h0 h1 h2 h3 h4 h5 h6 h7 h8 h9 h10 h11 (suc (suc (suc (suc (suc (suc (suc (suc (suc zero))))))))) u = h9
-twelve n h0 h1 h2 h3 h4 h5 h6 h7 h8 h9 h10 h11 (suc (suc (suc (suc (suc (suc (suc (suc (suc (suc zero)))))))))) u = h10
-twelve n h0 h1 h2 h3 h4 h5 h6 h7 h8 h9 h10 h11 (suc (suc (suc (suc (suc (suc (suc (suc (suc (suc (suc zero))))))))))) u = h11
-twelve n h0 h1 h2 h3 h4 h5 h6 h7 h8 h9 h10 h11 (suc (suc (suc (suc (suc (suc (suc (suc (suc (suc (suc (suc k)))))))))))) u = absurd (omega arith)
-
-numbered : (n m : ℕ) → T (is_numbered n m) → n ≡ name_number (month_name m)
-unfolding is_numbered
-numbered n m t = eqb→eq n (name_number (month_name m)) t
-
--- none of them
-pub no_number : (n : ℕ) → ((k : ℕ) → k < 12 → n ≡ get_or numbers k 0 → ⊥) → 13 ≡ month_numbered n
-unfolding month_numbered
-no_number n h = go (lt-or-le (find (is_numbered n) 1 12) 13)
-  where
-    unmet : (m : ℕ) → 1 ≤ m → m ≤ 12 → T (is_numbered n m) → ⊥
-    unmet m l u t = h (m - 1) (omega arith) (numbered n m t ∙ month_number m l u)
-
-    go : (find (is_numbered n) 1 12 < 13) ⊎ (13 ≤ find (is_numbered n) 1 12) → 13 ≡ find (is_numbered n) 1 12
-    go (inl k) = absurd (unmet (find (is_numbered n) 1 12) (find_bounds (is_numbered n) 1 12).0 (omega arith) (find_at (is_numbered n) 1 12 k))
-    go (inr k) = omega (arith, (find_bounds (is_numbered n) 1 12).1)
-
--- the letters of a name's number
-module _ (m : ℕ) (l : 1 ≤ m) (u : m ≤ 12) where
-  pub first_letter : name_number (month_name m) % 256 ≡ byte_at (month_name m) 0
-  unfolding name_number
-  first_letter = let k = capitals m l u in omega (arith, k.0.1)
-
-  pub second_letter : name_number (month_name m) / 256 % 256 ≡ byte_at (month_name m) 1
-  unfolding name_number
-  second_letter = let k = capitals m l u in omega (arith, k.0.1, k.1.0.1)
-
-  pub third_letter : name_number (month_name m) / 65536 % 256 ≡ byte_at (month_name m) 2
-  unfolding name_number
-  third_letter = let k = capitals m l u in omega (arith, k.0.1, k.1.0.1, k.1.1.1)
+pub name_bytes : (m : ℕ) → 1 ≤ m → m ≤ 12 → to_le_bytes w32 (name_number (month_name m)) ≡ letters m
+name_bytes m l u =
+    same_is (to_le_bytes w32 (name_number (month_name m))) (letters m)
+    (each_passes (λ m. same_bytes (to_le_bytes w32 (name_number (month_name m))) (letters m)) 1 12 names_numbered m l (omega arith))

@@ -26,11 +26,9 @@ days_to_2000 = refl
 
 -- ---- the test
 
--- as the code asks it
-pub in-range : (t : Time) → SFits w32 t.days
-    → ((le_z (negsuc 7304) (to_z w32 (of_z w32 t.days)) && le_z (to_z w32 (of_z w32 t.days)) (pos 36524)) && (ltb t.seconds 86400 && ltb t.microseconds 1000000)) ≡ valid_time t
+pub time_range : (t : Time) → valid_time t ≡ ((le_z (negsuc 7304) t.days && le_z t.days (pos 36524)) && (ltb t.seconds 86400 && ltb t.microseconds 1000000))
 unfolding valid_time
-in-range t fits = rw (first-day, last-day, to_z-of_z fits) refl
+time_range t = rw (first-day, last-day)
 
 -- ---- what is so of an mjd of the range
 

@@ -7,16 +7,15 @@ use mathlib.Core.Path.{◌≡◌, refl, sym, ap, ◌∙◌}
 use native.Mathlib.Omega.{arith}
 use lib.Dec.{T}
 use lib.ListN.{length, replicate, length-replicate}
+use Rattle.std.specs.Prelude.{Option, Some, None, Result, Ok, Err}
 use Rattle.layout.specs.Bytes.{byte_at}
 use Rattle.layout.specs.Answer.{accepted, need, none, refusal, is, ◌else◌}
-use Rattle.layout.specs.Answers.{verdict_is}
+use Rattle.layout.specs.declared.Refusal.{Refusal}
 use Rattle.layout.specs.declared.Time.{Time}
-use Rattle.layout.proofs.Maps.{refusals, one-verdict}
+use Rattle.layout.specs.Answers.{reply_is, verdict_is}
+use Rattle.layout.proofs.Maps.{one-result, one-reply}
 use Rattle.layout.proofs.Tests.{is_true}
-use Rattle.times.specs.declared.TimeAnswer.{TimeAnswer}
-use Rattle.times.specs.declared.TimeAnswer.TheVariants as answers
-use Rattle.times.specs.declared.TimeText.{TimeText}
-use Rattle.times.specs.Times.{time_of, text_of, same_bytes, moment_in, valid_text, blank_text, not_given, given, time_of_text, time_answer_is, valid_time, TextIs, TextAnswer}
+use Rattle.times.specs.Times.{time_of, text_of, same_bytes, moment_in, valid_text, blank_text, not_given, given, time_of_text, time_answer_is, valid_time, TextIs, text_bytes, TextAnswer, said_by}
 use Rattle.times.specs.Order.{time_order, moment_order}
 use Rattle.times.proofs.Months.{same_is, is_same}
 use Rattle.times.proofs.Numbers.{timed}
@@ -55,20 +54,15 @@ same_text t u s h k =
 
 -- ---- two results are equal
 
-one_answer : (v w : TimeAnswer) → time_answer_is v ≡ time_answer_is w → v ≡ w
-unfolding time_answer_is
-one_answer (answers.Refused r) (answers.Refused s) h = ap answers.Refused (refusals r s h)
-one_answer (answers.Refused r) answers.NotGiven h = cc
-one_answer (answers.Refused r) (answers.Is t) h = cc
-one_answer answers.NotGiven (answers.Refused s) h = cc
-one_answer answers.NotGiven answers.NotGiven h = refl
-one_answer answers.NotGiven (answers.Is t) h = cc
-one_answer (answers.Is t) (answers.Refused s) h = cc
-one_answer (answers.Is t) answers.NotGiven h = cc
-one_answer (answers.Is t) (answers.Is u) h = ap answers.Is (cc)
+one_said : (x y : Option Time) → said_by x ≡ said_by y → x ≡ y
+unfolding said_by
+one_said None None h = refl
+one_said None (Some t) h = cc
+one_said (Some t) None h = cc
+one_said (Some t) (Some u) h = ap Some (cc)
 
-pub one_time : (t : List ℕ) (x y : TimeAnswer) → time_answer_is x ≡ time_of_text t → time_answer_is y ≡ time_of_text t → x ≡ y
-one_time t x y h k = one_answer x y (h ∙ sym k)
+pub one_time : (t : List ℕ) (x y : Result (Option Time) Refusal) → time_answer_is x ≡ time_of_text t → time_answer_is y ≡ time_of_text t → x ≡ y
+one_time t x y h k = one-result said_by one_said x y (h ∙ sym k)
 
 one-bytes : (s : Time) (t u : List ℕ) → TextIs s t → TextIs s u → t ≡ u
 one-bytes s t u p q = go (valid_time s) refl
@@ -77,21 +71,28 @@ one-bytes s t u p q = go (valid_time s) refl
     go true e = let h : T (valid_time s) = rw e tt in same_text t u s (p.says h) (q.says h)
     go false e = p.none e ∙ sym (q.none e)
 
-pub one-text : (s : Time) (x y : TimeText) → TextAnswer s x → TextAnswer s y → x ≡ y
-one-text s x y p q = λ j. record { verdict = one-verdict x.verdict y.verdict (p.verdict ∙ sym q.verdict) j; text = one-bytes s x.text y.text p.text q.text j }
+one_result : (x y : Result (List ℕ) Refusal) → verdict_is x ≡ verdict_is y → text_bytes x ≡ text_bytes y → x ≡ y
+unfolding verdict_is text_bytes reply_is
+one_result (Ok t) (Ok u) h k = ap Ok k
+one_result (Ok t) (Err s) h k = cc
+one_result (Err r) (Ok u) h k = cc
+one_result (Err r) (Err s) h k = one-reply (Err r) (Err s) (cc)
+
+pub one-text : (s : Time) (x y : Result (List ℕ) Refusal) → TextAnswer s x → TextAnswer s y → x ≡ y
+one-text s x y p q = one_result x y (p.verdict ∙ sym q.verdict) (one-bytes s (text_bytes x) (text_bytes y) p.text q.text)
 
 -- ---- there and back
 
 -- a text that has a time is that time's text
-pub text_again : (t : List ℕ) (s : Time) (r : TimeText) → time_of_text t ≡ is (given s) → TextAnswer s r → (verdict_is r.verdict ≡ accepted) × (r.text ≡ t)
+pub text_again : (t : List ℕ) (s : Time) (r : Result (List ℕ) Refusal) → time_of_text t ≡ is (given s) → TextAnswer s r → (verdict_is r ≡ accepted) × (text_bytes r ≡ t)
 text_again t s r h p =
     let v = time_in_range t s h in
-    (p.verdict ∙ rw (is_true (valid_time s) v), same_text r.text t s (p.text.says v) h)
+    (p.verdict ∙ rw (is_true (valid_time s) v), same_text (text_bytes r) t s (p.text.says v) h)
 
 -- a time of the range is the time of its text
-pub time_again : (s : Time) (r : TimeText) (a : TimeAnswer) → T (valid_time s) → TextAnswer s r → time_answer_is a ≡ time_of_text r.text → a ≡ answers.Is s
-unfolding time_answer_is
-time_again s r a h p q = one_answer a (answers.Is s) (q ∙ p.text.says h)
+pub time_again : (s : Time) (r : Result (List ℕ) Refusal) (a : Result (Option Time) Refusal) → T (valid_time s) → TextAnswer s r → time_answer_is a ≡ time_of_text (text_bytes r) → a ≡ Ok (Some s)
+unfolding reply_is said_by
+time_again s r a h p q = one-result said_by one_said a (Ok (Some s)) (q ∙ p.text.says h)
 
 -- each time of the range has a text
 pub has_text : (s : Time) → T (valid_time s) → (t : List ℕ) × (time_of_text t ≡ is (given s))
@@ -123,7 +124,7 @@ unfolding byte_at blank_text
 blanks-first = refl
 
 -- no time has blanks for its text
-pub no_time_blank : (s : Time) (r : TimeText) → TextAnswer s r → r.text ≡ blank_text → ⊥
+pub no_time_blank : (s : Time) (r : Result (List ℕ) Refusal) → TextAnswer s r → text_bytes r ≡ blank_text → ⊥
 no_time_blank s r p e = go (valid_time s) refl
   where
     go : (v : Bool) → valid_time s ≡ v → ⊥

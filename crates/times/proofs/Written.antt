@@ -1,11 +1,9 @@
 -- A moment's text is of the form that the code tests and is read as that moment; a text of the form is the text of the moment that it is read as.
 -- Assumes nothing.
-use Prim.Native.Nat.{ℕ, suc, ◌+◌, ◌-◌, ◌/◌, ◌%◌, ◌≤◌, ◌<◌}
-use mathlib.Core.Bool.{Bool, true, false, ◌&&◌, ◌||◌, not, false≢true}
+use Prim.Native.Nat.{ℕ, suc, ◌+◌, ◌*◌, ◌-◌, ◌/◌, ◌%◌, ◌≤◌, ◌<◌}
+use mathlib.Core.Bool.{Bool, true, false, ◌&&◌, not, false≢true}
 use mathlib.Core.List.{List, [], ◌∷◌, ◌++◌}
-use mathlib.Core.Logic.{◌⊎◌, inl, inr}
 use mathlib.Core.Path.{◌≡◌, refl, sym, ap, ◌∙◌}
-use native.Mathlib.Nat.{zero-add}
 use native.Mathlib.Omega.{arith}
 use borrow.Author.Tests.{le-leb}
 use lib.Dec.{T, leb, eqb, leb→le, le→leb, eqb→eq}
@@ -15,17 +13,16 @@ use Rattle.layout.specs.Bytes.{bytes, part, byte_at, within}
 use Rattle.layout.specs.Answer.{need, accepted}
 use Rattle.layout.specs.Search.{first, some}
 use Rattle.layout.specs.Text.{fits, digits}
-use Rattle.layout.proofs.Laws.{and_T, lt-or-le}
+use Rattle.layout.proofs.Laws.{and_T}
 use Rattle.layout.proofs.Tests.{is_true}
 use Rattle.text.specs.Numbers.{AllDigits}
 use Rattle.text.proofs.Runs.{tested}
-use Rattle.text.proofs.Parts.{byte_part}
 use Rattle.calendar.proofs.Days.{each_passes}
 use Rattle.times.specs.declared.Moment.{Moment}
-use Rattle.times.specs.Times.{in_digits, month_name, date_text, clock_text, text_of, month_in, date_in, moment_in}
-use Rattle.times.specs.Formed.{lowest, highest, outside, misplaced, formed, pair_of}
+use Rattle.times.specs.Times.{in_digits, month_name, date_text, clock_text, text_of, same_bytes, month_in, date_in, moment_in}
+use Rattle.times.specs.Formed.{lowest, highest, outside, formed}
 use Rattle.times.proofs.Digits.{number_back, least_digit, most-digit, part-last, digits_back, part_join}
-use Rattle.times.proofs.Months.{name_spelled, capitals, month_back, name_back}
+use Rattle.times.proofs.Months.{same_is, name_spelled, capitals, month_back, name_back}
 
 -- ---- digits in pairs
 
@@ -57,23 +54,19 @@ module _ (n : ℕ) where
   ten_thousand : n / 10000 ≡ n / 10 / 10 / 10 / 10
   ten_thousand = omega arith
 
--- the bytes of a pair
+-- a pair as the code works it out, the first digit in the lower byte
+abbrev pair_of : ℕ → ℕ
+pair_of n = 12336 + 256 * n - 2559 * (205 * n / 2048)
+
 abbrev paired : ℕ → Bool
-paired n = eqb (pair_of n % 256) (48 + n / 10 % 10) && eqb (pair_of n / 256 % 256) (48 + n % 10)
+paired n = same_bytes (pair_of n % 256 ∷ pair_of n / 256 % 256 ∷ []) (in_digits 2 n)
 
 all_paired : first (λ n. need (paired n) 0 0 0) 0 100 ≡ accepted
-unfolding first pair_of
+unfolding first same_bytes in_digits
 all_paired = refl
 
-module _ (n : ℕ) (h : n < 100) where
-  both_paired : T (eqb (pair_of n % 256) (48 + n / 10 % 10)) × T (eqb (pair_of n / 256 % 256) (48 + n % 10))
-  both_paired = (and_T (eqb (pair_of n % 256) (48 + n / 10 % 10)) (eqb (pair_of n / 256 % 256) (48 + n % 10))).0 (each_passes paired 0 100 all_paired n (omega arith) (omega arith))
-
-  pub first-digit : {r p : ℕ} → r ≡ p % 256 → p ≡ pair_of n → r ≡ 48 + n / 10 % 10
-  first-digit e f = e ∙ rw f (eqb→eq (pair_of n % 256) (48 + n / 10 % 10) both_paired.0)
-
-  pub second-digit : {r p : ℕ} → r ≡ p / 256 % 256 → p ≡ pair_of n → r ≡ 48 + n % 10
-  second-digit e f = e ∙ rw f (eqb→eq (pair_of n / 256 % 256) (48 + n % 10) both_paired.1)
+pub in_pair : (n : ℕ) → n < 100 → pair_of n % 256 ∷ pair_of n / 256 % 256 ∷ [] ≡ in_digits 2 n
+in_pair n h = same_is (pair_of n % 256 ∷ pair_of n / 256 % 256 ∷ []) (in_digits 2 n) (each_passes paired 0 100 all_paired n (omega arith) (omega arith))
 
 -- ---- the 27 bytes one by one
 
@@ -116,7 +109,7 @@ module _ (m : Moment) (january : 1 ≤ m.date.month) (december : m.date.month �
   -- ---- it is formed
 
   pub is-formed : formed (text_of m) ≡ true
-  unfolding formed some misplaced outside lowest highest part byte_at in_digits
+  unfolding formed some outside lowest highest byte_at in_digits
   is-formed =
       let a = capitals m.date.month january december in
       let at : ℕ → ℕ = λ i. byte_at (month_name m.date.month) i in
@@ -197,44 +190,23 @@ abbrev digit_place : ℕ → Bool
 digit_place k = eqb (byte_at lowest k) 48 && eqb (byte_at highest k) 57
 
 module _ (t : List ℕ) (h : T (formed t)) where
-  -- neither place is misplaced
-  unmoved : (i : ℕ) → i < 16 → misplaced t i ≡ false
-  unfolding formed
-  unmoved i u = tested (misplaced t) 16 0 (not (some (misplaced t) 0 16)) refl (is_true (not (some (misplaced t) 0 16)) h) i (omega arith) (omega arith)
-
   abbrev Placed : ℕ → Type 0
   Placed k = (byte_at lowest k ≤ byte_at t k) × (byte_at t k ≤ byte_at highest k)
 
-  inside : (at i : ℕ) → i < 16 → outside t at i ≡ false → Placed (at + i)
+  inside : (k : ℕ) → outside t k ≡ false → Placed k
   unfolding outside
-  inside at i u e =
-      let lo = byte_at (part lowest at 16) i in
-      let hi = byte_at (part highest at 16) i in
-      let x = byte_at t (at + i) in
-      let r = (and_T (leb lo x) (leb x hi)).0 (passed (within lo hi x) e) in
-      rw (← byte_part lowest at 16 i u, ← byte_part highest at 16 i u) (leb→le lo x r.0, leb→le x hi r.1)
+  inside k e =
+      let x = byte_at t k in
+      let r = (and_T (leb (byte_at lowest k) x) (leb x (byte_at highest k))).0 (passed (within (byte_at lowest k) (byte_at highest k) x) e) in
+      (leb→le (byte_at lowest k) x r.0, leb→le x (byte_at highest k) r.1)
     where
       passed : (w : Bool) → not w ≡ false → T w
       passed true q = tt
       passed false q = absurd (false≢true (sym q))
 
-  apart : (i : ℕ) → i < 16 → (outside t 0 i || outside t 11 i) ≡ false
-  unfolding misplaced
-  apart i u = unmoved i u
-
-  both : (i : ℕ) → i < 16 → (outside t 0 i ≡ false) × (outside t 11 i ≡ false)
-  both i u = go (outside t 0 i) (outside t 11 i) (apart i u)
-    where
-      go : (a b : Bool) → (a || b) ≡ false → (a ≡ false) × (b ≡ false)
-      go true b e = absurd (false≢true (sym e))
-      go false b e = (refl, e)
-
   placed : (k : ℕ) → k < 27 → Placed k
-  placed k u = on (lt-or-le k 16)
-    where
-      on : (k < 16) ⊎ (16 ≤ k) → Placed k
-      on (inl l) = rw (zero-add k) at (inside 0 k l (both k l).0)
-      on (inr l) = let e : 11 + (k - 11) ≡ k = omega arith in rw e at (inside 11 (k - 11) (omega arith) (both (k - 11) (omega arith)).1)
+  unfolding formed
+  placed k u = inside k (tested (outside t) 27 0 (not (some (outside t) 0 27)) refl (is_true (not (some (outside t) 0 27)) h) k (omega arith) (omega arith))
 
   digits-told : (at n : ℕ) → at + n ≤ 27 → first (λ k. need (digit_place k) 0 0 0) at n ≡ accepted → AllDigits t at n
   unfolding fits

@@ -1,20 +1,18 @@
 -- Times people can read (document 02, order 7): a moment, its text `DD-MMM-YYYY hh:mm:ss.uuuuuu` and its time, days, seconds and microseconds from
 -- 1 January 2000 on; what a text says, and the text of a time.
 -- Assumes nothing.
-use Rattle.std.specs.Prelude.{ℕ, zero, suc, ◌+◌, ◌*◌, ◌-◌, ◌/◌, ◌%◌, Bool, true, false, cond, ◌&&◌, List, [], ◌∷◌, ◌++◌, ◌≡◌, T, ltb, eqb, get_or, replicate}
+use Rattle.std.specs.Prelude.{ℕ, zero, suc, ◌+◌, ◌*◌, ◌-◌, ◌/◌, ◌%◌, Bool, true, false, cond, ◌&&◌, List, [], ◌∷◌, ◌++◌, ◌≡◌, T, ltb, eqb, get_or, replicate, Option, Some, None, Result, Ok, Err}
 use Rattle.layout.specs.Bytes.{bytes, part}
 use Rattle.layout.specs.Text.{digits}
-use Rattle.layout.specs.Answer.{none, need, Reply, refusal, is, ◌else◌}
+use Rattle.layout.specs.Answer.{none, need, Reply, is, ◌else◌}
 use Rattle.layout.specs.Search.{find}
 use Rattle.layout.specs.Entries.{within_z}
-use Rattle.layout.specs.Answers.{verdict_is}
+use Rattle.layout.specs.Answers.{reply_is, verdict_is}
+use Rattle.layout.specs.declared.Refusal.{Refusal}
 use Rattle.layout.specs.declared.Time.{Time}
 use Rattle.calendar.specs.declared.Date.{Date}
 use Rattle.calendar.specs.Calendar.{valid_date, day_number}
 use Rattle.times.specs.declared.Moment.{Moment}
-use Rattle.times.specs.declared.TimeAnswer.{TimeAnswer}
-use Rattle.times.specs.declared.TimeAnswer.TheVariants as answers
-use Rattle.times.specs.declared.TimeText.{TimeText}
 
 -- ---- moments
 
@@ -98,11 +96,13 @@ pub data Said : Type 0 where
 unfoldable pub time_of_text : List ℕ → Reply Said
 time_of_text t = cond (same_bytes t blank_text) (is not_given) (need (valid_text t) 30 0 none else given (time_of (moment_in t)))
 
--- what the enum says
-unfoldable pub time_answer_is : TimeAnswer → Reply Said
-time_answer_is (answers.Refused r) = refusal r.number r.place r.entry
-time_answer_is answers.NotGiven = is not_given
-time_answer_is (answers.Is t) = is (given t)
+-- what the result says
+unfoldable pub said_by : Option Time → Said
+said_by None = not_given
+said_by (Some t) = given t
+
+abbrev pub time_answer_is : Result (Option Time) Refusal → Reply Said
+time_answer_is r = reply_is said_by r
 
 -- ---- the text of a time
 
@@ -121,7 +121,12 @@ pub record TextIs (t : Time) (text : List ℕ) : Type 0 where
   pub says : T (valid_time t) → time_of_text text ≡ is (given t)
   pub none : valid_time t ≡ false → text ≡ replicate 27 0
 
+-- the verdict of a text or a refusal, and its bytes: 27 zeros beside a refusal
+unfoldable pub text_bytes : Result (List ℕ) Refusal → List ℕ
+text_bytes (Ok text) = text
+text_bytes (Err r) = replicate 27 0
+
 -- 31: an mjd outside the range
-pub record TextAnswer (t : Time) (r : TimeText) : Type 0 where
-  pub verdict : verdict_is r.verdict ≡ need (valid_time t) 31 0 none
-  pub text : TextIs t r.text
+pub record TextAnswer (t : Time) (r : Result (List ℕ) Refusal) : Type 0 where
+  pub verdict : verdict_is r ≡ need (valid_time t) 31 0 none
+  pub text : TextIs t (text_bytes r)

@@ -5,13 +5,12 @@
 mod texts;
 
 ghost use Rattle.std.specs.Prelude.{◌≡◌, T};
-ghost use Rattle.layout.specs.Answer.{refusal};
 ghost use Rattle.times.specs.Times.{valid_moment, time_of, time_of_text, time_answer_is, valid_time, TextAnswer};
 
 use calendar::Date;
-use layout::{Refusal, Time, Verdict};
+use layout::{Refusal, Time};
 
-// A moment as its text has it.
+// A moment as its text has it: any numbers, since `moment_in` of the specification is one of any text; so what is valid of them is no invariant of theirs.
 #[derive(Clone, Copy)]
 pub struct Moment {
     pub date: Date,
@@ -21,44 +20,35 @@ pub struct Moment {
     pub microsecond: u32,
 }
 
-// What a text says: a time, or with 27 blanks that none is given.
-#[derive(Clone, Copy)]
-pub enum TimeAnswer {
-    Refused(Refusal),
-    NotGiven,
-    Is(Time),
-}
+// Any other text than a time's or 27 blanks.
+const NO_TIME: Refusal = Refusal {
+    number: 30,
+    place: 0,
+    entry: 128,
+};
 
-impl TimeAnswer {
-    fn refuse() -> TimeAnswer
-        ensures { time_answer_is result ≡ refusal 30 0 128 }
-    {
-        TimeAnswer::Refused(Refusal {
-            number: 30,
-            place: 0,
-            entry: 128,
-        })
-    }
-}
-
-// The text of a time; zeros beside a refusal.
-#[derive(Clone, Copy)]
-pub struct TimeText {
-    pub verdict: Verdict,
-    pub text: [u8; 27],
-}
+// A time outside the range.
+const NO_TEXT: Refusal = Refusal {
+    number: 31,
+    place: 0,
+    entry: 128,
+};
 
 // The days from 1 January 1980 to 1 January 2000, which is day 0.
 const DAYS_TO_2000: i32 = 7305;
 
+#[tactic(auto, unfolding(crate::specs::Times::valid_moment))]
 fn is_moment(moment: Moment) -> bool
     ensures { result ≡ valid_moment moment }
 {
-    let date = calendar::is_date(moment.date);
-    date & ((moment.hour < 24)
-        & ((moment.minute < 60) & ((moment.second < 60) & (moment.microsecond < 1_000_000))))
+    calendar::is_date(moment.date)
+        && moment.hour < 24
+        && moment.minute < 60
+        && moment.second < 60
+        && moment.microsecond < 1_000_000
 }
 
+#[tactic(auto, using(crate::proofs::Moments::valid))]
 fn time_of(moment: Moment) -> Time
     requires { T (valid_moment moment) }
     ensures { result ≡ time_of moment }
@@ -72,11 +62,11 @@ fn time_of(moment: Moment) -> Time
 }
 
 // A time of the range.
+#[tactic(auto, using(crate::proofs::Numbers::time_range))]
 fn is_time(time: Time) -> bool
     ensures { result ≡ valid_time time }
 {
-    ((-7305 <= time.days) & (time.days <= 36524))
-        & ((time.seconds < 86_400) & (time.microseconds < 1_000_000))
+    (-7305..=36524).contains(&time.days) && time.seconds < 86_400 && time.microseconds < 1_000_000
 }
 
 fn moment_of(time: Time) -> Moment
@@ -96,28 +86,26 @@ fn moment_of(time: Time) -> Moment
     }
 }
 
-// What a text says, whatever its bytes and their number.
-pub fn time_of_text(text: &[u8]) -> TimeAnswer
+// What a text says, whatever its bytes and their number: a time, or with 27 blanks that none is given.
+#[tactic(auto, using(crate::proofs::Said::said_length), unfolding(crate::specs::Times::said_by, layout::specs::Answers::reply_is))]
+pub fn time_of_text(text: &[u8]) -> Result<Option<Time>, Refusal>
     ensures { time_answer_is result ≡ time_of_text text.now }
 {
     if text.len() != 27 {
-        return TimeAnswer::refuse();
+        return Err(NO_TIME);
     }
-    if !texts::is_formed(text) {
-        if text::first_not_blank(text, 0, 27) == 27 {
-            return TimeAnswer::NotGiven;
-        }
-        return TimeAnswer::refuse();
+    if texts::is_formed(text) {
+        let moment = texts::moment_in(text).ok_or(NO_TIME)?;
+        return Ok(Some(time_of(moment)));
     }
-    let moment = texts::moment_in(text);
-    if !is_moment(moment) {
-        return TimeAnswer::refuse();
+    if text::first_not_blank(text, 0, 27) == 27 {
+        return Ok(None);
     }
-    TimeAnswer::Is(time_of(moment))
+    Err(NO_TIME)
 }
 
 // The text of a time, whatever its numbers.
-pub fn text_of_time(days: i32, seconds: u32, microseconds: u32) -> TimeText
+pub fn text_of_time(days: i32, seconds: u32, microseconds: u32) -> Result<[u8; 27], Refusal>
     ensures { TextAnswer (record { days = days; seconds = seconds; microseconds = microseconds }) result }
 {
     let time = Time {
@@ -126,14 +114,7 @@ pub fn text_of_time(days: i32, seconds: u32, microseconds: u32) -> TimeText
         microseconds,
     };
     if !is_time(time) {
-        return TimeText {
-            verdict: Verdict::refuse(31, 0, 128),
-            text: [0; 27],
-        };
+        return Err(NO_TEXT);
     }
-    let moment = moment_of(time);
-    TimeText {
-        verdict: Verdict::Accepted,
-        text: texts::text_of(moment),
-    }
+    Ok(texts::text_of(moment_of(time)))
 }

@@ -9,12 +9,14 @@ use native.Mathlib.Nat.{add-zero, le_trans, mul_assoc, pow-succ', mul-le-mul_rig
 use native.Mathlib.Omega.{arith}
 use lib.Dec.{eqb}
 use lib.IntN.{ℤ}
-use lib.ListN.{length, get_or, take, drop, length-take, get_or-eq_default}
+use lib.ListN.{length, get_or, take, drop, replicate, length-take, length-replicate, get_or-eq_default, get_or-replicate}
 use lib.Seq.{get_or-take, get_or-drop}
 use lib.Signed.{mag}
 use mir.Syntax.{w64}
 use mir.Val.{to_z, of_z}
 use mir.Facts.{to_z-of_z}
+use Rattle.std.specs.Array.{AllOfLen}
+use Rattle.std.proofs.lemmas.List.{same_lists}
 use Rattle.layout.specs.Bytes.{part, byte_at}
 use Rattle.layout.specs.Text.{digits, number_of}
 use Rattle.layout.proofs.Laws.{lt-or-le}
@@ -70,6 +72,12 @@ module _ (b : List ℕ) (at width : ℕ) where
 -- an i64 comes back as it is
 pub kept : {z : ℤ} → mag z < 9223372036854775808 → to_z w64 (of_z w64 z) ≡ z
 kept h = to_z-of_z {w = w64} (record { sfits = h })
+
+-- the numbers of an array made by default
+pub zeros : {xs : List ℕ} {n : ℕ} → AllOfLen (λ x. x ≡ 0) xs n → xs ≡ replicate n 0
+zeros {xs} {n} h =
+    same_lists xs (replicate n 0) (h.long ∙ sym (length-replicate n 0))
+    (λ k d l. let below : k < n = rw (← h.long) l in h.at k d below ∙ sym (get_or-replicate n k 0 d below))
 
 -- the byte of a c
 pub one_byte : (b : List ℕ) (at : ℕ) → get_or b at 0 ≡ byte_at (part b at 1) 0

@@ -19,7 +19,6 @@ use std::env::FillError;
 use std::fs::File;
 use std::rt::{Env, Files};
 use std::{io, str};
-use streams::Arrived;
 
 // Says of a file, or of an argument that names none, why it cannot be read. Where that cannot be said there is nobody to tell.
 fn say_unread(rt: &impl Eprint, name: &str, error: io::Error) {
@@ -38,13 +37,11 @@ fn show_read(rt: &impl Print, name: &str, p: &[u8]) -> io::Result<()>
 }
 
 // A file, which is closed again before anything is written of it.
-fn read_file(files: &impl Files, name: &str, room: &mut [u8]) -> Arrived
+fn read_file(files: &impl Files, name: &str, room: &mut [u8]) -> io::Result<usize>
     ensures { Fills result room.new }
 {
-    match File::open(files, name) {
-        Ok(mut file) => streams::read_whole(&mut file, room),
-        Err(error) => Arrived::Failed(error),
-    }
+    let mut file = File::open(files, name)?;
+    streams::read_whole(&mut file, room)
 }
 
 // The product in a file. Of one that cannot be read there is nothing to write.
@@ -53,8 +50,8 @@ fn show_file(rt: &(impl Files + Print + Eprint), name: &str) -> io::Result<()>
 {
     let mut input = [0u8; 65537];
     match read_file(rt, name, &mut input) {
-        Arrived::Whole(length) => show_read(rt, name, &input[..length]),
-        Arrived::Failed(error) => {
+        Ok(length) => show_read(rt, name, &input[..length]),
+        Err(error) => {
             say_unread(rt, name, error);
             Ok(())
         }

@@ -51,12 +51,6 @@ pub fn print_numbered(rt: &impl Print, name: &[u8], number: u64, text: &[u8]) ->
     rt.write_all(&out[..ended])
 }
 
-fn at_most_16(size: u64) -> usize
-    ensures { result ≤ 16 }
-{
-    if size < 16 { size as usize } else { 16 }
-}
-
 // A part's size and at most 16 of its bytes.
 pub fn print_part(
     rt: &impl Print,
@@ -69,7 +63,7 @@ pub fn print_part(
 {
     let mut line = [0u64; 17];
     line[0] = size;
-    let shown = at_most_16(size);
+    let shown = size.min(16) as usize;
     let end = words::put_bytes(&mut line, 1, &bytes[..shown]);
     print_words(rt, name, asked, &line[..end])
 }

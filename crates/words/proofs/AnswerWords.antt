@@ -1,98 +1,44 @@
--- The laws of a number's word, and the words of each case of an answer.
+-- The laws of a number's word, and the words of a place and of a field.
 -- Assumes nothing.
-use Prim.Native.Nat.{ℕ, ◌-◌, ◌≤◌}
+use Prim.Native.Nat.{ℕ}
 use mathlib.Core.Path.{◌≡◌, refl}
 use native.Mathlib.Omega.{arith}
-use native.Mathlib.Nat.{not-suc-le-zero}
-use lib.IntN.{ℤ, pos, negsuc, nat_abs}
-use lib.Signed.{◌<ℤ◌, ◌≤ℤ◌}
-use lib.Dec.{ltb→lt}
-use mathlib.Core.List.{[], ◌∷◌}
-use lib.Ieee.{Float}
-use Rattle.layout.specs.Answers.{verdict_is, place_is, field_is, field_answer_is, point_answer_is}
+use lib.IntN.{ℤ, pos, negsuc}
+use mir.Syntax.{w64}
+use mir.Val.{of_z}
+use mathlib.Core.List.{List, [], ◌∷◌, ◌++◌}
+use Rattle.std.specs.Prelude.{Result, Ok, Err, MatchResult, IsOkAnd}
+use Rattle.std.specs.Result.{result_unwrap_or}
+use Rattle.layout.specs.Answers.{verdict_is, reply_is, place_is, field_is, field_answer_is}
 use Rattle.layout.specs.declared.Refusal.{Refusal}
-use Rattle.layout.specs.declared.Verdict.{Verdict}
-use Rattle.layout.specs.declared.Verdict.TheVariants as verdicts
-use Rattle.layout.specs.declared.Place.{Place}
-use Rattle.layout.specs.declared.Place.TheVariants as places
+use Rattle.layout.specs.declared.Span.{Span}
 use Rattle.layout.specs.declared.Field.{Field}
-use Rattle.layout.specs.declared.Field.TheVariants as fields
-use Rattle.layout.specs.declared.Time.{Time}
-use Rattle.layout.specs.declared.FieldAnswer.{FieldAnswer}
-use Rattle.layout.specs.declared.FieldAnswer.TheVariants as answers
-use Rattle.layout.specs.declared.Point.{Point}
-use Rattle.layout.specs.declared.PointAnswer.{PointAnswer}
-use Rattle.layout.specs.declared.PointAnswer.TheVariants as points
-use Rattle.words.specs.Words.{word, verdict_words, place_words, value_words, field_words, point_words, zero_float, point_doubles}
+use Rattle.words.specs.Words.{word, verdict_words, place_words, value_words, field_words}
 
-pub has_magnitude : (z : ℤ) → z <ℤ pos 0 → 1 ≤ nat_abs z
-has_magnitude (pos n) h = absurd (not-suc-le-zero (ltb→lt n 0 h.lt))
-has_magnitude (negsuc n) h = omega arith
-
-pub negative_word : (z : ℤ) → z <ℤ pos 0 → 18446744073709551615 - (nat_abs z - 1) ≡ word z
+pub in_two's_complement : (z : ℤ) → of_z w64 z ≡ word z
 unfolding word
-negative_word (pos n) h = absurd (not-suc-le-zero (ltb→lt n 0 h.lt))
-negative_word (negsuc n) h = omega arith
+in_two's_complement (pos n) = refl
+in_two's_complement (negsuc n) = omega arith
 
-pub other_word : (z : ℤ) → pos 0 ≤ℤ z → nat_abs z ≡ word z
-unfolding word
-other_word (pos n) h = refl
-other_word (negsuc n) h = absurd h.le
+-- ---- behind the refusal's words those of the value
 
--- ---- the cases of the enums
+abbrev pub no_span : Span
+no_span = record { place = 0; length = 0 }
 
-pub accepted_words : (v : Verdict) → v ≡ verdicts.Accepted → 0 ∷ 0 ∷ 0 ∷ [] ≡ verdict_words (verdict_is v)
-unfolding verdict_words verdict_is
-accepted_words v h = rw h
+pub place-words : (a : Result Span Refusal) → verdict_words (verdict_is a) ++ ((result_unwrap_or a no_span).place ∷ (result_unwrap_or a no_span).length ∷ []) ≡ place_words (place_is a)
+unfolding verdict_words verdict_is place_words reply_is
+place-words (Ok s) = refl
+place-words (Err r) = refl
 
-pub refused_words : (v : Verdict) (r : Refusal) → v ≡ verdicts.Refused r → r.number ∷ r.place ∷ r.entry ∷ [] ≡ verdict_words (verdict_is v)
-unfolding verdict_words verdict_is
-refused_words v r h = rw h
+pub field-words : (a : Result Field Refusal) (w : List ℕ) → MatchResult a (λ f. w ≡ value_words (field_is f)) (λ r. w ≡ 0 ∷ 0 ∷ 0 ∷ 0 ∷ []) → verdict_words (verdict_is a) ++ w ≡ field_words (field_answer_is a)
+unfolding verdict_words verdict_is field_words reply_is
+field-words (Ok f) w h = rw h
+field-words (Err r) w h = rw h
 
-pub place-words : (a : Place) (p n : ℕ) → a ≡ places.At p n → 0 ∷ 0 ∷ 0 ∷ p ∷ n ∷ [] ≡ place_words (place_is a)
-unfolding place_words place_is
-place-words a p n h = rw h
+-- ---- a verdict is the answer's refusal
 
-pub no_place_words : (a : Place) (r : Refusal) → a ≡ places.Refused r → r.number ∷ r.place ∷ r.entry ∷ 0 ∷ 0 ∷ [] ≡ place_words (place_is a)
-unfolding place_words place_is
-no_place_words a r h = rw h
-
-pub no_field_words : (a : FieldAnswer) (r : Refusal) → a ≡ answers.Refused r → r.number ∷ r.place ∷ r.entry ∷ 0 ∷ 0 ∷ 0 ∷ 0 ∷ [] ≡ field_words (field_answer_is a)
-unfolding field_words field_answer_is
-no_field_words a r h = rw h
-
-pub field-words : (a : FieldAnswer) (f : Field) → a ≡ answers.Is f → 0 ∷ 0 ∷ 0 ∷ value_words (field_is f) ≡ field_words (field_answer_is a)
-unfolding field_words field_answer_is
-field-words a f h = rw h
-
-pub no_point_words : (a : PointAnswer) (r : Refusal) → a ≡ points.Refused r → r.number ∷ r.place ∷ r.entry ∷ [] ≡ point_words (point_answer_is a)
-unfolding point_words point_answer_is
-no_point_words a r h = rw h
-
-pub point-words : (a : PointAnswer) (x : Point) → a ≡ points.At x → 0 ∷ 0 ∷ 0 ∷ [] ≡ point_words (point_answer_is a)
-unfolding point_words point_answer_is
-point-words a x h = rw h
-
-pub no_point_doubles : (a : PointAnswer) (r : Refusal) → a ≡ points.Refused r → zero_float ∷ zero_float ∷ zero_float ∷ [] ≡ point_doubles (point_answer_is a)
-unfolding point_doubles point_answer_is
-no_point_doubles a r h = rw h
-
-pub point-doubles : (a : PointAnswer) (x : Point) → a ≡ points.At x → x.latitude ∷ x.longitude ∷ x.altitude ∷ [] ≡ point_doubles (point_answer_is a)
-unfolding point_doubles point_answer_is
-point-doubles a x h = rw h
-
-pub whole_words : (f : Field) (z : ℤ) (w : ℕ) → f ≡ fields.Whole z → w ≡ word z → 1 ∷ w ∷ 0 ∷ 0 ∷ [] ≡ value_words (field_is f)
-unfolding value_words field_is
-whole_words f z w h is = rw (h, is)
-
-pub single_words : (f : Field) (v : Float) (bits : ℕ) → f ≡ fields.Single v bits → 2 ∷ bits ∷ 0 ∷ 0 ∷ [] ≡ value_words (field_is f)
-unfolding value_words field_is
-single_words f v bits h = rw h
-
-pub double_words : (f : Field) (v : Float) (bits : ℕ) → f ≡ fields.Double v bits → 3 ∷ bits ∷ 0 ∷ 0 ∷ [] ≡ value_words (field_is f)
-unfolding value_words field_is
-double_words f v bits h = rw h
-
-pub time-words : (f : Field) (t : Time) (w : ℕ) → f ≡ fields.Time t → w ≡ word t.days → 4 ∷ w ∷ t.seconds ∷ t.microseconds ∷ [] ≡ value_words (field_is f)
-unfolding value_words field_is
-time-words f t w h is = rw (h, is)
+pub same-verdict : {A B : Type 0} (P : A → B → Type 0) (a : Result A Refusal) (v : Result B Refusal) → MatchResult a (λ x. IsOkAnd v (P x)) (λ r. v ≡ Err r) → verdict_is v ≡ verdict_is a
+unfolding verdict_is
+same-verdict P (Ok x) (Ok y) h = refl
+same-verdict P (Ok x) (Err r) h = absurd h
+same-verdict P (Err r) v h = rw h

@@ -4,19 +4,20 @@ ghost use Rattle.layout.specs.Answers.{verdict_is};
 ghost use Rattle.writing.specs.Put.{Put};
 ghost use Rattle.words.specs.Headers.{identity_words, sensing_words, orbit_words, clock_words, sizes_words, header_words, identity_texts, header_texts, number_words, directory_words, directory_texts, PutTwo, PutThree};
 
-use crate::{put_bytes, put_numbers, put_verdict, put_words, word_of};
-use layout::{Directory, Verdict};
+use crate::{put_bytes, put_each, put_verdict, put_words, word_of};
+use layout::{Directory, Refusal};
 use values::{Clock, Identity, MainHeader, Orbit, Sensing, Sizes};
 use writing::put_text;
 
+#[tactic(auto, unfolding(crate::specs::Headers::identity_words))]
 fn put_identity(room: &mut [u64], at: usize, header: Identity) -> usize
     requires { at + 1 ≤ length room.old }
     ensures { Put 1 (identity_words header) room.old room.new at result }
 {
-    let words = [header.proc_stage as u64];
-    put_words(room, at, &words)
+    put_words(room, at, &[header.proc_stage as u64])
 }
 
+#[tactic(auto, unfolding(crate::specs::Headers::sensing_words))]
 fn put_sensing(room: &mut [u64], at: usize, header: Sensing) -> usize
     requires { at + 4 ≤ length room.old }
     ensures { Put 4 (sensing_words header) room.old room.new at result }
@@ -30,6 +31,7 @@ fn put_sensing(room: &mut [u64], at: usize, header: Sensing) -> usize
     put_words(room, at, &words)
 }
 
+#[tactic(auto, unfolding(crate::specs::Headers::orbit_words))]
 fn put_orbit(room: &mut [u64], at: usize, header: Orbit) -> usize
     requires { at + 7 ≤ length room.old }
     ensures { Put 7 (orbit_words header) room.old room.new at result }
@@ -43,9 +45,10 @@ fn put_orbit(room: &mut [u64], at: usize, header: Orbit) -> usize
         header.y_velocity,
         header.z_velocity,
     ];
-    put_numbers(room, at, &numbers)
+    put_each(room, at, &numbers)
 }
 
+#[tactic(auto, unfolding(crate::specs::Headers::clock_words))]
 fn put_clock(room: &mut [u64], at: usize, header: Clock) -> usize
     requires { at + 4 ≤ length room.old }
     ensures { Put 4 (clock_words header) room.old room.new at result }
@@ -59,6 +62,7 @@ fn put_clock(room: &mut [u64], at: usize, header: Clock) -> usize
     put_words(room, at, &words)
 }
 
+#[tactic(auto, unfolding(crate::specs::Headers::sizes_words))]
 fn put_sizes(room: &mut [u64], at: usize, header: Sizes) -> usize
     requires { at + 6 ≤ length room.old }
     ensures { Put 6 (sizes_words header) room.old room.new at result }
@@ -74,7 +78,11 @@ fn put_sizes(room: &mut [u64], at: usize, header: Sizes) -> usize
     put_words(room, at, &words)
 }
 
-pub(crate) fn put_header(room: &mut [u64], verdict: Verdict, header: MainHeader) -> usize
+pub(crate) fn put_header(
+    room: &mut [u64],
+    verdict: Result<(), Refusal>,
+    header: MainHeader,
+) -> usize
     requires { 25 ≤ length room.old }
     ensures { Put 25 (header_words (verdict_is verdict) header) room.old room.new 0 result }
 {
@@ -141,10 +149,10 @@ fn put_arrays<'a>(
     put_words(room, sized, counts)
 }
 
-// The numbers of a directory by its parts.
+// The numbers of a directory by its parts: array by array, as C gets them, of a `Directory` or of the numbers that an opening holds.
 pub fn put_directory_numbers<'a>(
     room: &mut [u64],
-    verdict: Verdict,
+    verdict: Result<(), Refusal>,
     entries: usize,
     types: &'a [u8; 128],
     offsets: &'a [u64; 128],
@@ -156,24 +164,27 @@ pub fn put_directory_numbers<'a>(
     requires { 772 ≤ length room.old }
     ensures { Put 772 (number_words (verdict_is verdict) entries types.now offsets.now sizes.now counts.now record_sizes.now ranks.now) room.old room.new 0 result }
 {
-    let number = [entries as u64];
     let judged = put_verdict(room, verdict);
-    let counted = put_words(room, judged, &number);
+    let counted = put_words(room, judged, &[entries as u64]);
     let typed = put_bytes(room, counted, types);
     let filled = put_arrays(room, typed, offsets, sizes, counts);
-    let measured = put_numbers(room, filled, record_sizes);
+    let measured = put_each(room, filled, record_sizes);
     put_words(room, measured, ranks)
 }
 
-pub(crate) fn put_directory(room: &mut [u64], verdict: Verdict, directory: Directory) -> usize
+#[tactic(auto, unfolding(crate::specs::Headers::directory_words))]
+pub(crate) fn put_directory(
+    room: &mut [u64],
+    verdict: Result<(), Refusal>,
+    directory: Directory,
+) -> usize
     requires { 772 ≤ length room.old }
     ensures { Put 772 (directory_words (verdict_is verdict) directory) room.old room.new 0 result }
 {
-    let entries = directory.entries;
     put_directory_numbers(
         room,
         verdict,
-        entries,
+        directory.entries,
         &directory.types,
         &directory.offsets,
         &directory.sizes,

@@ -5,67 +5,70 @@
 mod headers;
 mod rooms;
 
-ghost use Rattle.std.specs.Prelude.{◌≡◌, ◌∷◌, [], map, ◌+◌, ◌≤◌, length};
+ghost use Rattle.std.specs.Prelude.{◌≡◌, ℕ, ◌∷◌, [], map, ◌+◌, ◌≤◌, length};
 ghost use Rattle.layout.specs.Answers.{verdict_is, place_is, field_is, field_answer_is, point_answer_is};
 ghost use Rattle.writing.specs.Put.{Put};
 ghost use Rattle.words.specs.Words.{word, verdict_words, place_words, value_words, field_words, point_words, point_doubles};
 
 pub use headers::put_directory_numbers;
-use layout::{Field, FieldAnswer, Place, PointAnswer, Refusal, Verdict};
+use layout::{Field, Point, Refusal, Span};
 pub use rooms::{ROOM_TOO_SHORT, WRITTEN, put_part, put_whole_directory, put_whole_header};
-use writing::magnitude;
+use writing::put_items;
 
 // Two's complement.
 pub fn word_of(number: i64) -> u64
     ensures { result ≡ word number }
 {
-    if number < 0 {
-        return 0xffff_ffff_ffff_ffff - (magnitude(number) - 1);
-    }
-    magnitude(number)
+    number.cast_unsigned()
 }
 
-fn wide(byte: u8) -> u64
-    ensures { result ≡ byte }
+// What has a word of its own.
+trait HasWord: Copy {
+    ghost in_word: { Self → ℕ };
+
+    fn word(self) -> u64
+        ensures { result ≡ in_word self };
+}
+
+impl HasWord for u8 {
+    ghost in_word = { λ byte. byte };
+
+    fn word(self) -> u64 {
+        u64::from(self)
+    }
+}
+
+impl HasWord for i64 {
+    ghost in_word = { word };
+
+    fn word(self) -> u64 {
+        word_of(self)
+    }
+}
+
+// Items, each in a word of its own.
+fn put_each<W: HasWord>(room: &mut [u64], at: usize, items: &[W]) -> usize
+    requires { at + length items.now ≤ length room.old }
+    ensures { Put (length items.now) (map W.in_word items.now) room.old room.new at result }
 {
-    byte as u64
+    for (i, item) in items.iter().enumerate() {
+        room[at + i] = item.word();
+    }
+    at + items.len()
 }
 
 pub fn put_words(room: &mut [u64], at: usize, words: &[u64]) -> usize
     requires { at + length words.now ≤ length room.old }
     ensures { Put (length words.now) words.now room.old room.new at result }
 {
-    let mut i = 0;
-    while i < words.len() {
-        room[at + i] = words[i];
-        i += 1;
-    }
-    at + words.len()
+    put_items(room, at, words)
 }
 
-// Bytes, each in a word of its own.
 pub fn put_bytes(room: &mut [u64], at: usize, bytes: &[u8]) -> usize
     requires { at + length bytes.now ≤ length room.old }
     ensures { Put (length bytes.now) bytes.now room.old room.new at result }
 {
-    let mut i = 0;
-    while i < bytes.len() {
-        room[at + i] = wide(bytes[i]);
-        i += 1;
-    }
-    at + bytes.len()
-}
-
-fn put_numbers(room: &mut [u64], at: usize, numbers: &[i64]) -> usize
-    requires { at + length numbers.now ≤ length room.old }
-    ensures { Put (length numbers.now) (map word numbers.now) room.old room.new at result }
-{
-    let mut i = 0;
-    while i < numbers.len() {
-        room[at + i] = word_of(numbers[i]);
-        i += 1;
-    }
-    at + numbers.len()
+    put_each(room, at, bytes)
 }
 
 pub fn put_refusal(room: &mut [u64], refusal: Refusal) -> usize
@@ -76,33 +79,32 @@ pub fn put_refusal(room: &mut [u64], refusal: Refusal) -> usize
     put_words(room, 0, &words)
 }
 
-pub fn put_verdict(room: &mut [u64], verdict: Verdict) -> usize
+// Of any answer its refusal, or three zeros.
+#[tactic(auto, unfolding(layout::specs::Answers::verdict_is, crate::specs::Words::verdict_words))]
+pub fn put_verdict<T: Copy>(room: &mut [u64], verdict: Result<T, Refusal>) -> usize
     requires { 3 ≤ length room.old }
     ensures { Put 3 (verdict_words (verdict_is verdict)) room.old room.new 0 result }
 {
     match verdict {
-        Verdict::Accepted => put_words(room, 0, &[0, 0, 0]),
-        Verdict::Refused(refusal) => put_refusal(room, refusal),
+        Ok(_) => put_words(room, 0, &[0, 0, 0]),
+        Err(refusal) => put_refusal(room, refusal),
     }
 }
 
-pub fn put_place(room: &mut [u64], answer: Place) -> usize
+pub fn put_place(room: &mut [u64], answer: Result<Span, Refusal>) -> usize
     requires { 5 ≤ length room.old }
     ensures { Put 5 (place_words (place_is answer)) room.old room.new 0 result }
 {
-    match answer {
-        Place::At { place, length } => {
-            let words = [0, 0, 0, place, length];
-            put_words(room, 0, &words)
-        }
-        Place::Refused(refusal) => {
-            let next = put_refusal(room, refusal);
-            put_words(room, next, &[0, 0])
-        }
-    }
+    let span = answer.unwrap_or(Span {
+        place: 0,
+        length: 0,
+    });
+    let next = put_verdict(room, answer);
+    put_words(room, next, &[span.place, span.length])
 }
 
 // Which kind of value it is, and its words.
+#[tactic(auto, unfolding(layout::specs::Answers::field_is, crate::specs::Words::value_words))]
 fn value_words(field: Field) -> [u64; 4]
     ensures { result ≡ value_words (field_is field) }
 {
@@ -119,50 +121,38 @@ fn value_words(field: Field) -> [u64; 4]
     }
 }
 
-pub fn put_field(room: &mut [u64], answer: FieldAnswer) -> usize
+pub fn put_field(room: &mut [u64], answer: Result<Field, Refusal>) -> usize
     requires { 7 ≤ length room.old }
     ensures { Put 7 (field_words (field_answer_is answer)) room.old room.new 0 result }
 {
-    match answer {
-        FieldAnswer::Refused(refusal) => {
-            let next = put_refusal(room, refusal);
-            put_words(room, next, &[0, 0, 0, 0])
-        }
-        FieldAnswer::Is(field) => {
-            let words = value_words(field);
-            let next = put_words(room, 0, &[0, 0, 0]);
-            put_words(room, next, &words)
-        }
-    }
+    let words = answer.map_or([0; 4], value_words);
+    let next = put_verdict(room, answer);
+    put_words(room, next, &words)
 }
 
-pub fn put_point(room: &mut [u64], answer: PointAnswer) -> usize
+#[tactic(auto, unfolding(layout::specs::Answers::reply_is, layout::specs::Answers::verdict_is, crate::specs::Words::verdict_words, crate::specs::Words::point_words))]
+pub fn put_point(room: &mut [u64], answer: Result<Point, Refusal>) -> usize
     requires { 3 ≤ length room.old }
     ensures { Put 3 (point_words (point_answer_is answer)) room.old room.new 0 result }
 {
-    match answer {
-        PointAnswer::Refused(refusal) => put_refusal(room, refusal),
-        PointAnswer::At(_) => put_words(room, 0, &[0, 0, 0]),
-    }
+    put_verdict(room, answer)
 }
 
 fn put_three(room: &mut [f64], first: f64, second: f64, third: f64) -> usize
     requires { 3 ≤ length room.old }
     ensures { Put 3 (first ∷ second ∷ third ∷ []) room.old room.new 0 result }
 {
-    room[0] = first;
-    room[1] = second;
-    room[2] = third;
-    3
+    put_items(room, 0, &[first, second, third])
 }
 
 // Degrees and metres; beside a refusal zeros.
-pub fn put_doubles(room: &mut [f64], answer: PointAnswer) -> usize
+#[tactic(auto, unfolding(layout::specs::Answers::reply_is, crate::specs::Words::point_doubles))]
+pub fn put_doubles(room: &mut [f64], answer: Result<Point, Refusal>) -> usize
     requires { 3 ≤ length room.old }
     ensures { Put 3 (point_doubles (point_answer_is answer)) room.old room.new 0 result }
 {
     match answer {
-        PointAnswer::Refused(_) => put_three(room, 0.0, 0.0, 0.0),
-        PointAnswer::At(point) => put_three(room, point.latitude, point.longitude, point.altitude),
+        Err(_) => put_three(room, 0.0, 0.0, 0.0),
+        Ok(point) => put_three(room, point.latitude, point.longitude, point.altitude),
     }
 }

@@ -1,10 +1,10 @@
 // Answers put whole into two lent rooms, where both have room for them. A room too short for the answer returns 1, and nothing is written.
 ghost use Rattle.layout.specs.Answers.{verdict_is};
-ghost use Rattle.words.specs.Rooms.{DirectoryRooms, HeaderRooms, PartRooms};
+ghost use Rattle.words.specs.Rooms.{directory_shown, header_shown, DirectoryRooms, HeaderRooms, PartRooms};
 
 use crate::headers::{put_directory, put_directory_texts, put_header, put_header_texts};
 use crate::put_words;
-use layout::{Directory, Verdict};
+use layout::{Directory, Refusal};
 use values::MainHeader;
 use writing::put_text;
 
@@ -14,40 +14,40 @@ pub const ROOM_TOO_SHORT: u32 = 1;
 
 // The directory's words and texts, where both have room.
 pub fn put_whole_directory(
-    verdict: Verdict,
-    directory: Directory,
+    answer: Result<Directory, Refusal>,
     words: &mut [u64],
     texts: &mut [u8],
 ) -> u32
-    ensures { DirectoryRooms (verdict_is verdict) directory words.old words.new texts.old texts.new result }
+    ensures { DirectoryRooms (verdict_is answer) (directory_shown answer) words.old words.new texts.old texts.new result }
 {
+    let directory = answer.unwrap_or(Directory::none());
     if words.len() < 772 {
         return ROOM_TOO_SHORT;
     }
     if texts.len() < 11520 {
         return ROOM_TOO_SHORT;
     }
-    put_directory(words, verdict, directory);
+    put_directory(words, answer.map(|_| ()), directory);
     put_directory_texts(texts, directory);
     WRITTEN
 }
 
 // The main header's words and texts, where both have room.
 pub fn put_whole_header(
-    verdict: Verdict,
-    header: MainHeader,
+    answer: Result<MainHeader, Refusal>,
     words: &mut [u64],
     texts: &mut [u8],
 ) -> u32
-    ensures { HeaderRooms (verdict_is verdict) header words.old words.new texts.old texts.new result }
+    ensures { HeaderRooms (verdict_is answer) (header_shown answer) words.old words.new texts.old texts.new result }
 {
+    let header = answer.unwrap_or(MainHeader::none());
     if words.len() < 25 {
         return ROOM_TOO_SHORT;
     }
     if texts.len() < 289 {
         return ROOM_TOO_SHORT;
     }
-    put_header(words, verdict, header);
+    put_header(words, answer.map(|_| ()), header);
     put_header_texts(texts, header);
     WRITTEN
 }
@@ -62,8 +62,7 @@ pub fn put_part(part: &[u8], words: &mut [u64], bytes: &mut [u8]) -> u32
     if bytes.len() < part.len() {
         return ROOM_TOO_SHORT;
     }
-    let length = [part.len() as u64];
-    put_words(words, 0, &length);
+    put_words(words, 0, &[part.len() as u64]);
     put_text(bytes, 0, part);
     WRITTEN
 }

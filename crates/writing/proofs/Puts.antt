@@ -5,8 +5,10 @@ use mathlib.Core.Path.{◌≡◌, refl, sym, ap, ◌∙◌, subst}
 use mathlib.Core.List.{List, [], ◌∷◌, ◌++◌, append-nil}
 use native.Mathlib.Omega.{arith}
 use native.Mathlib.Nat.{add-zero, zero-add, add-suc, suc-add}
-use lib.ListN.{length, take, drop, get_or, set, replicate, length-append, length-drop, length-replicate, replicate-append-replicate}
-use lib.Seq.{sets, sets-eq, length-sets, take-suc, take_at, drop_at, take-append-le, drop-append-le, drop-append-add, take-set-le, drop-set-lt, drop-set-add, drop-length, length-take-le}
+use lib.ListN.{length, take, drop, get_or, set, length-append, length-drop}
+use lib.Seq.{sets, sets-eq, take_all, length-sets, take-suc, take_at, drop_at, take-append-le, drop-append-le, drop-append-add, take-set-le, drop-set-lt, drop-set-add, drop-length, length-take-le}
+use borrow.Rule.Slice.PartMut.{put_mid}
+use Rattle.std.proofs.lemmas.Slice.{put_mid-paste}
 use Rattle.layout.specs.Bytes.{part}
 use Rattle.writing.specs.Put.{Put, Written}
 
@@ -33,13 +35,19 @@ module _ {A : Type 0} where
   pub spelled : {w : ℕ} {a b old new : List A} {at r : ℕ} → a ≡ b → Put w a old new at r → Put w b old new at r
   spelled {w} {a} {b} {old} {new} {at} {r} e p = subst (λ (text : List A). Put w text old new at r) e p
 
+  -- a text copied over the part that is as long
+  pub pasted : (old text : List A) (at : ℕ) {n : ℕ} {xs : List A} → xs ≡ text → length text ≡ n → at + n ≤ length old → Put n text old (put_mid at (at + n - at) old xs) at (at + n)
+  pasted old text at {n} e l h =
+      let whole : take n text ≡ text = take_all n text (omega arith) in
+      record {
+        next = rw l;
+        written = put_mid-paste at (at + n - at) old _ text n e (omega arith) (sym l) ∙ rw (whole, sets-eq text old at (omega arith), l);
+        narrow = omega arith;
+      }
+
   -- a turn of the loop that copies a text
   pub one_more : (old text : List A) (at i : ℕ) (z : A) → i < length text → set (sets old at (take i text)) (at + i) (get_or text i z) ≡ sets old at (take (suc i) text)
   one_more old text at i z h = rw (take-suc text i z h, sets_append old at (take i text) (get_or text i z ∷ []), length-take-le i text (omega arith))
-
-  -- and of the one that stores one element over and over
-  pub once_more : (old : List A) (at i : ℕ) (z : A) → set (sets old at (replicate i z)) (at + i) z ≡ sets old at (replicate (i + 1) z)
-  once_more old at i z = rw (← replicate-append-replicate i 1 z, sets_append old at (replicate i z) (z ∷ []), length-replicate i z)
 
   -- from the first place on
   pub at_first : {w : ℕ} {text old new : List A} {r : ℕ} → Put w text old new 0 r → length text ≤ length old → new ≡ text ++ drop (length text) old

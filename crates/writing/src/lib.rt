@@ -1,7 +1,7 @@
 // Names, texts and numbers put into a lent buffer. A writer puts its text into `out` from the place `at` on, and answers the place behind it.
 #![tactic(auto)]
 
-ghost use Rattle.std.specs.Prelude.{◌≡◌, ◌∷◌, ◌++◌, [], ◌+◌, ◌≤◌, nat_abs, length, replicate};
+ghost use Rattle.std.specs.Prelude.{◌≡◌, ◌∷◌, ◌++◌, [], ◌+◌, ◌≤◌, length, replicate};
 ghost use Rattle.layout.specs.Bytes.{part};
 ghost use Rattle.layout.specs.Listing.{decimal, signed_decimal, trimmed};
 ghost use Rattle.writing.specs.Put.{Put};
@@ -14,31 +14,33 @@ pub fn put_byte(out: &mut [u8], at: usize, byte: u8) -> usize
     at + 1
 }
 
+// Items of any kind, as they are.
+pub fn put_items<T: Copy>(out: &mut [T], at: usize, items: &[T]) -> usize
+    requires { at + length items.now ≤ length out.old }
+    ensures { Put (length items.now) items.now out.old out.new at result }
+{
+    let end = at + items.len();
+    out[at..end].copy_from_slice(items);
+    end
+}
+
 pub fn put_text(out: &mut [u8], at: usize, text: &[u8]) -> usize
     requires { at + length text.now ≤ length out.old }
     ensures { Put (length text.now) text.now out.old out.new at result }
 {
-    let mut i = 0;
-    while i < text.len() {
-        out[at + i] = text[i];
-        i += 1;
-    }
-    at + text.len()
+    put_items(out, at, text)
 }
 
 pub fn put_zeros(out: &mut [u8], at: usize, count: usize) -> usize
     requires { at + count ≤ length out.old }
     ensures { Put count (replicate count 0) out.old out.new at result }
 {
-    let mut i = 0;
-    while i < count {
-        out[at + i] = 0;
-        i += 1;
-    }
-    at + count
+    let end = at + count;
+    out[at..end].fill(0);
+    end
 }
 
-// Digits, the leading ones first: at most 20 deep.
+// Digits, the leading ones first: at most 20 deep. The library writes digits through a formatter, which is no plainer here.
 fn put_digits(out: &mut [u8], at: usize, number: u64) -> usize
     requires { at + length (decimal number) ≤ length out.old }
     ensures { Put 20 (decimal number) out.old out.new at result }
@@ -59,16 +61,6 @@ pub fn put_number(out: &mut [u8], at: usize, number: u64, end: u8) -> usize
     put_byte(out, next, end)
 }
 
-// The magnitude of a number, taken so that the lowest number's fits too.
-pub fn magnitude(number: i64) -> u64
-    ensures { result ≡ nat_abs number }
-{
-    if number < 0 {
-        return (-1 - number) as u64 + 1;
-    }
-    number as u64
-}
-
 // A number with its sign where it is negative, and the byte behind it.
 pub fn put_signed(out: &mut [u8], at: usize, number: i64, end: u8) -> usize
     requires { at + 22 ≤ length out.old }
@@ -76,9 +68,9 @@ pub fn put_signed(out: &mut [u8], at: usize, number: i64, end: u8) -> usize
 {
     if number < 0 {
         let next = put_byte(out, at, b'-');
-        return put_number(out, next, magnitude(number), end);
+        return put_number(out, next, number.unsigned_abs(), end);
     }
-    put_number(out, at, magnitude(number), end)
+    put_number(out, at, number.unsigned_abs(), end)
 }
 
 // How many bytes of the name that starts here come before its trailing blanks.
@@ -86,13 +78,10 @@ pub fn name_length(names: &[u8], start: usize) -> usize
     requires { start + 28 ≤ length names.now }
     ensures { (result ≤ 28) × (trimmed (part names.now start 28) ≡ part names.now start result) }
 {
-    let mut kept = 28;
-    while 0 < kept {
-        let last = kept - 1;
+    for last in (0..28).rev() {
         if names[start + last] != b' ' {
-            return kept;
+            return last + 1;
         }
-        kept = last;
     }
     0
 }

@@ -36,7 +36,7 @@ returns-then-within-entries c =
     let pre = c.requires in
     let none = c.if-within-entries.true in
     let over = c.over_place.ensures ∙ over_by args.p.now args.dsds args.entries pre.0 args.reading pre.1.counted 0 _ pre.1.held none in
-    λ n. c.refuse.ensures ∙ ap (λ k. refused 9 (args.dsds + 280 * args.reading.within + k) args.reading.within) over ∙ sym (nine_stops args.p.now args.dsds args.entries pre.0 args.reading pre.1.counted n none)
+    λ n. c.refuse.ensures.judged ∙ ap (λ k. refused 9 (args.dsds + 280 * args.reading.within + k) args.reading.within) over ∙ sym (nine_stops args.p.now args.dsds args.entries pre.0 args.reading pre.1.counted n none)
 
 pub overflow_mul-fitting : goal.overflow_mul-fitting
 overflow_mul-fitting c = let args = c.args in let pre = c.requires in omega (arith, fitting_most args.p.now args.dsds args.entries pre.0 args.reading pre.1.counted 0, pre.0.most)
@@ -48,7 +48,7 @@ pub returns-then-fitting-entries : goal.returns-then-fitting-entries
 returns-then-fitting-entries c =
     let args = c.args in
     let pre = c.requires in
-    λ n. c.refuse-then-fitting-entries.ensures ∙ sym (ten_stops args.p.now args.dsds args.entries pre.0 args.reading pre.1.counted n c.if-within-entries.false c.if-fitting-entries.true)
+    λ n. c.refuse-then-fitting-entries.ensures.judged ∙ sym (ten_stops args.p.now args.dsds args.entries pre.0 args.reading pre.1.counted n c.if-within-entries.false c.if-fitting-entries.true)
 
 pub number_at-data_sets-requires : goal.number_at-data_sets-requires
 number_at-data_sets-requires c = let pre = c.requires in (omega arith, omega (arith, pre.0.behind, pre.0.inside))
@@ -58,7 +58,7 @@ returns-then-is_negative c =
     let args = c.args in
     let pre = c.requires in
     let read = c.number_at-data_sets in
-    λ n. c.refuse-then-is_negative.ensures ∙ sym
+    λ n. c.refuse-then-is_negative.ensures.judged ∙ sym
     (eleven-left args.p.now args.dsds args.entries pre.0 args.reading pre.1.counted n c.if-within-entries.false c.if-fitting-entries.false
     ∙ rw (eleven_by args.p.now args.dsds args.entries pre.0 (λ k. (c.shared_slice_known-1.given k).fits) read.result read.ensures args.reading.counted, negative (number_from read.result) c.is_negative.result c.is_negative.ensures c.if-is_negative.true))
 
@@ -68,7 +68,7 @@ returns-then-data_sets-reading c =
     let args = c.args in
     let pre = c.requires in
     let read = c.number_at-data_sets in
-    λ n. c.refuse-then-data_sets-reading.ensures ∙ sym
+    λ n. c.refuse-then-data_sets-reading.ensures.judged ∙ sym
     (eleven-left args.p.now args.dsds args.entries pre.0 args.reading pre.1.counted n c.if-within-entries.false c.if-fitting-entries.false
     ∙ rw (eleven_by args.p.now args.dsds args.entries pre.0 (λ k. (c.shared_slice_known-1.given k).fits) read.result read.ensures args.reading.counted, ne_eqb read.result.magnitude args.reading.counted c.if-data_sets-reading.true, and-false))
 

@@ -16,7 +16,7 @@ pub returns-then-bad-dsds : goal.returns-then-bad-dsds
 unfolding text_rules
 returns-then-bad-dsds c =
     let args = c.args in
-    λ n. c.refuse.ensures ∙ sym (rw (seven args.p.now args.dsds args.entries c.requires c.first_bad_line-bad.result c.first_bad_line-bad.ensures n, ne_eqb c.first_bad_line-bad.result args.dsds c.if-bad-dsds.true))
+    λ n. c.refuse.ensures.judged ∙ sym (rw (seven args.p.now args.dsds args.entries c.requires c.first_bad_line-bad.result c.first_bad_line-bad.ensures n, ne_eqb c.first_bad_line-bad.result args.dsds c.if-bad-dsds.true))
 
 pub returns : goal.returns
 unfolding text_rules

@@ -14,17 +14,17 @@ unfolding directory_with directory_of
 returns c =
     let args = c.args in
     let few = c.requires.1 in
-    let names = fills c.put_names.ensures (names-long args.p.now args.from args.sets.entries few ∙ sym (length-replicate {A = ℕ} 3584 0)) in
-    let filenames = fills c.put_filenames.ensures (filenames-long args.p.now args.from args.sets.entries few ∙ sym (length-replicate {A = ℕ} 7936 0)) in
+    let names = fills c.put_names.ensures (names-long args.p.now args.from args.sets.now.entries few ∙ sym (length-replicate {A = ℕ} 3584 0)) in
+    let filenames = fills c.put_filenames.ensures (filenames-long args.p.now args.from args.sets.now.entries few ∙ sym (length-replicate {A = ℕ} 7936 0)) in
     let ranks = c.rank_sets.ensures in
     λ j. record {
-      entries = args.sets.entries;
-      types = args.sets.types;
+      entries = args.sets.now.entries;
+      types = args.sets.now.types;
       names = names j;
       filenames = filenames j;
-      offsets = args.sets.offsets;
-      sizes = args.sets.sizes;
-      counts = args.sets.counts;
-      record_sizes = args.sets.record_sizes;
+      offsets = args.sets.now.offsets;
+      sizes = args.sets.now.sizes;
+      counts = args.sets.now.counts;
+      record_sizes = args.sets.now.record_sizes;
       ranks = ranks j;
     }

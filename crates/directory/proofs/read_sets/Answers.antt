@@ -18,6 +18,7 @@ use Rattle.layout.proofs.Sound.{length-entries}
 use Rattle.text.specs.Numbers.{whole_in}
 use Rattle.dsd.specs.Held.{held_of, view_of, role_of}
 use Rattle.dsd.specs.declared.Entry.{Entry as HeldEntry}
+use Rattle.dsd.specs.declared.Role.TheVariants.{Other}
 use Rattle.directory.specs.Numbers.{held_start, held_extent, held_role}
 use Rattle.directory.specs.Checks.{over_at, unfit_at}
 use Rattle.directory.specs.declared.Sets.{Sets}
@@ -31,7 +32,6 @@ loop-i-init c =
     let from = c.args.from in
     let n = c.args.n in
     let zeros = c.requires.3 in (
-      omega arith,
       none_found (over_at (entries_from b from n)),
       none_found (unfit_at (entries_from b from n)),
       omega arith,
@@ -41,65 +41,14 @@ loop-i-init c =
       ap (λ (s : Sets). s.sizes) zeros ∙ none-held (of_entry held_extent 0 b from n) 0,
       ap (λ (s : Sets). s.counts) zeros ∙ none-held (of_entry count_of 0 b from n) 0,
       ap (λ (s : Sets). s.record_sizes) zeros ∙ none-held (of_entry record_size_of (pos 0) b from n) (pos 0),
-      ap (λ (s : Sets). s.roles) zeros ∙ none-held (of_entry held_role 0 b from n) 0,
+      ap (λ (s : Sets). s.roles) zeros ∙ none-held (of_entry held_role Other b from n) Other,
     )
-
-pub overflow_mul-i : goal.overflow_mul-i
-overflow_mul-i c = omega arith
-
-pub overflow_add-from : goal.overflow_add-from
-overflow_add-from c = omega arith
 
 pub at-entry-requires : goal.at-entry-requires
 at-entry-requires c = (omega arith, c.requires.2 _ (omega arith))
 
-pub bounds-types-i : goal.bounds-types-i
-bounds-types-i c = omega arith
-
-pub offset_bounds-offsets-i : goal.offset_bounds-offsets-i
-offset_bounds-offsets-i c = omega arith
-
-pub bounds-offsets-i : goal.bounds-offsets-i
-bounds-offsets-i c = omega arith
-
-pub offset_bounds-sizes-i : goal.offset_bounds-sizes-i
-offset_bounds-sizes-i c = omega arith
-
-pub bounds-sizes-i : goal.bounds-sizes-i
-bounds-sizes-i c = omega arith
-
-pub offset_bounds-counts-i : goal.offset_bounds-counts-i
-offset_bounds-counts-i c = omega arith
-
-pub bounds-counts-i : goal.bounds-counts-i
-bounds-counts-i c = omega arith
-
 pub whole-requires : goal.whole-requires
 whole-requires c = c.at-entry.ensures.small
-
-pub offset_bounds-record_sizes-i : goal.offset_bounds-record_sizes-i
-offset_bounds-record_sizes-i c = omega arith
-
-pub bounds-record_sizes-i : goal.bounds-record_sizes-i
-bounds-record_sizes-i c = omega arith
-
-pub bounds-roles-i : goal.bounds-roles-i
-bounds-roles-i c = omega arith
-
-pub row_with-within-requires : goal.row_with-within-requires
-row_with-within-requires c = omega arith
-
-pub row_with-fitting-requires : goal.row_with-fitting-requires
-row_with-fitting-requires c = omega arith
-
-pub counted_with-counted-requires : goal.counted_with-counted-requires
-counted_with-counted-requires c = omega arith
-
-pub overflow_add-i : goal.overflow_add-i
-overflow_add-i c = omega arith
-
-pub loop-i-smaller : goal.loop-i-smaller
-loop-i-smaller c = omega arith
 
 pub loop-i-preserved : goal.loop-i-preserved
 unfolding held_of whole_in whole
@@ -114,18 +63,17 @@ loop-i-preserved c =
     let more : l.i < n = omega arith in
     let few : l.i < 128 = omega (arith, c.requires.1) in
     let is = held-is b from n l.i more entry read.ensures in
-    let counted = count_next (non_empty_at (entries_from b from n)) l.counted l.i l.invariant.4 l.invariant.3 (c.counted_with-counted.ensures ∙ rw (counted_is b from n l.i more entry read.ensures)) in (
-      omega arith,
-      row_next (over_at (entries_from b from n)) l.within l.i _ l.invariant.1 (over_is b from n l.i more entry read.ensures c.over.ensures) c.row_with-within.ensures,
-      row_next (unfit_at (entries_from b from n)) l.fitting l.i _ l.invariant.2 (fits-is b from n l.i more entry read.ensures c.numbers_fit.ensures) c.row_with-fitting.ensures,
+    let counted = count_next (non_empty_at (entries_from b from n)) l.counted l.i l.invariant.3 l.invariant.2 (c.counted_with-counted.ensures ∙ rw (counted_is b from n l.i more entry read.ensures)) in (
+      row_next (over_at (entries_from b from n)) l.within l.i _ l.invariant.0 (over_is b from n l.i more entry read.ensures c.is_over.ensures) c.row_with-within.ensures,
+      row_next (unfit_at (entries_from b from n)) l.fitting l.i _ l.invariant.1 (fits-is b from n l.i more entry read.ensures c.numbers_fit.ensures) c.row_with-fitting.ensures,
       counted.1,
       counted.0,
-      one-held (of_entry type_of 0 b from n) 0 l.types l.i _ few l.invariant.5 (ap (λ (h : HeldEntry). h.ds_type) is),
-      one-held (of_entry held_start 0 b from n) 0 l.offsets l.i _ few l.invariant.6 (ap (λ (h : HeldEntry). h.offset.magnitude) is),
-      one-held (of_entry held_extent 0 b from n) 0 l.sizes l.i _ few l.invariant.7 (ap (λ (h : HeldEntry). h.size.magnitude) is),
-      one-held (of_entry count_of 0 b from n) 0 l.counts l.i _ few l.invariant.8 (ap (λ (h : HeldEntry). h.count.magnitude) is),
-      one-held (of_entry record_size_of (pos 0) b from n) (pos 0) l.record_sizes l.i _ few l.invariant.9 (to_z-of_z {w = w64} (record { sfits = c.whole.type_inv }) ∙ c.whole.ensures ∙ ap (λ (h : HeldEntry). whole_in h.record_size) is),
-      one-held (of_entry held_role 0 b from n) 0 l.roles l.i _ few l.invariant.10 (c.role.ensures ∙ ap (λ (h : HeldEntry). role_of (view_of h)) is),
+      one-held (of_entry type_of 0 b from n) 0 l.sets.types l.i _ few l.invariant.4 (ap (λ (h : HeldEntry). h.ds_type) is),
+      one-held (of_entry held_start 0 b from n) 0 l.sets.offsets l.i _ few l.invariant.5 (ap (λ (h : HeldEntry). h.offset.magnitude) is),
+      one-held (of_entry held_extent 0 b from n) 0 l.sets.sizes l.i _ few l.invariant.6 (ap (λ (h : HeldEntry). h.size.magnitude) is),
+      one-held (of_entry count_of 0 b from n) 0 l.sets.counts l.i _ few l.invariant.7 (ap (λ (h : HeldEntry). h.count.magnitude) is),
+      one-held (of_entry record_size_of (pos 0) b from n) (pos 0) l.sets.record_sizes l.i _ few l.invariant.8 (to_z-of_z {w = w64} (record { sfits = c.whole.type_inv }) ∙ c.whole.ensures ∙ ap (λ (h : HeldEntry). whole_in h.record_size) is),
+      one-held (of_entry held_role Other b from n) Other l.sets.roles l.i _ few l.invariant.9 (c.role.ensures ∙ ap (λ (h : HeldEntry). role_of (view_of h)) is),
     )
 
 pub returns : goal.returns
@@ -139,6 +87,6 @@ returns c =
     let ds = entries_from b from n in
     let e : l.i ≡ n = omega arith in
     let all : l.i ≡ length ds = e ∙ sym (length-entries b from n) in record {
-      counted = record { nine = l.invariant.1 ∙ ap (find (over_at ds) 0) all; ten = l.invariant.2 ∙ ap (find (unfit_at ds) 0) all; eleven = l.invariant.4 ∙ ap (count (non_empty_at ds) 0) all };
-      held = all_read b from n (all_held type_of 0 b from n l.i e l.invariant.5) (all_held held_start 0 b from n l.i e l.invariant.6) (all_held held_extent 0 b from n l.i e l.invariant.7) (all_held count_of 0 b from n l.i e l.invariant.8) (all_held record_size_of (pos 0) b from n l.i e l.invariant.9) (all_held held_role 0 b from n l.i e l.invariant.10);
+      counted = record { nine = l.invariant.0 ∙ ap (find (over_at ds) 0) all; ten = l.invariant.1 ∙ ap (find (unfit_at ds) 0) all; eleven = l.invariant.3 ∙ ap (count (non_empty_at ds) 0) all };
+      held = all_read b from n (all_held type_of 0 b from n l.i e l.invariant.4) (all_held held_start 0 b from n l.i e l.invariant.5) (all_held held_extent 0 b from n l.i e l.invariant.6) (all_held count_of 0 b from n l.i e l.invariant.7) (all_held record_size_of (pos 0) b from n l.i e l.invariant.8) (all_held held_role Other b from n l.i e l.invariant.9);
     }

@@ -1,15 +1,16 @@
--- `extinction::first_extinction` meets its contract: what is left of the search from `i` on is the whole search.
+-- `extinction::first_extinction` meets its contract.
 -- Assumes nothing.
-use mathlib.Core.Path.{sym, ◌∙◌}
-use native.Mathlib.Omega.{arith}
-use Rattle.layout.proofs.Laws.{find_hit, find-next, find_none}
+use Prim.Native.Nat.{ℕ}
+use mathlib.Core.Bool.{Bool, true, false}
+use mathlib.Core.Path.{◌≡◌}
+use borrow.Author.Rules.{rules}
+use Rattle.std.proofs.lemmas.Iterator.{first_from_Range}
+use Rattle.extinction.specs.Found.{is_extinction_in}
+use Rattle.layout.proofs.Below.{first_below}
 use Rattle.extinction.proofs.first_extinction.Goals as goal
 
-pub returns-then-is_extinction : goal.returns-then-is_extinction
-returns-then-is_extinction c = find_hit _ _ _ _ c.loop-i.invariant.1 (omega arith) (sym c.is_extinction.ensures ∙ c.if-is_extinction.true)
-
-pub loop-i-preserved : goal.loop-i-preserved
-loop-i-preserved c = (omega arith, find-next _ _ _ _ c.loop-i.invariant.1 (omega arith) (sym c.is_extinction.ensures ∙ c.if-is_extinction.false))
-
 pub returns : goal.returns
-returns c = find_none _ _ _ _ c.loop-i.invariant.1 (omega arith) (omega arith)
+returns c =
+    let t : ℕ → Bool = is_extinction_in c.args.directory.now in
+    first_below t _ _ c.requires.0 _
+    (first_from_Range _ _ _ _ (λ i. t i ≡ true) (λ i. t i ≡ false) c.find.ensures.ran (λ x q k. search rules) (λ x q k. search rules))

@@ -1,45 +1,47 @@
--- `extinction::pixel_at` meets its contract, by the promises of the calls alone.
+-- `extinction::pixel_at` meets its contract, by the opening of the product and the promise of `record_part`.
 -- Assumes nothing.
-use mathlib.Core.Path.{◌∙◌}
-use Rattle.layout.proofs.Replies.{told-refused, told-accepted}
-use Rattle.extinction.specs.Extinction.{pixel_answer_is}
-use Rattle.extinction.proofs.Calls.{refused-product, few-entries, no_set, handed_out, no_record, reads}
+use mathlib.Core.Path.{refl, sym, ap, ◌∙◌}
+use borrow.Author.Rules.{rules}
+use Rattle.layout.specs.Answers.{reply_is, reply, verdict_is}
+use Rattle.layout.proofs.Replies.{handed-reply}
+use Rattle.product.proofs.Calls.{now_dsds, now_few, now_directory}
+use Rattle.extinction.proofs.Calls.{refused-product, no_set, handed_out, no_record, reads}
 use Rattle.extinction.proofs.pixel_at.Goals as goal
 
-pub returns-in-Refused : goal.returns-in-Refused
-unfolding pixel_answer_is
-returns-in-Refused c =
-    let opened = c.open_directory-opened in
-    refused-product _ _ _ _ _ _ (told-refused opened.result.verdict _ _ c.in-Refused.is opened.ensures.judged)
+pub returns-in_err-opened : goal.returns-in_err-opened
+unfolding verdict_is
+returns-in_err-opened c = handed-reply _ _ _ c.from_residual.ensures ∙ refused-product _ _ _ _ _ _ (sym c.in_err-opened.ensures.judged)
 
-pub extinction_entry-entry-requires : goal.extinction_entry-entry-requires
-extinction_entry-entry-requires c =
-    let opened = c.open_directory-opened in
-    let accepts = told-accepted opened.result.verdict _ c.in_default.is opened.ensures.judged in
-    few-entries _ 0 0 accepts opened.result.directory opened.ensures.listed
+pub entry_opened-requires : goal.entry_opened-requires
+unfolding verdict_is
+entry_opened-requires c =
+    let o = c.in_ok-opened.ensures in
+    ((now_dsds _ _ (o.opens _ refl) (sym o.judged)).1, now_few _ _ (o.opens _ refl) (sym o.judged))
 
-pub returns-then-entry-eq-PLACES : goal.returns-then-entry-eq-PLACES
-returns-then-entry-eq-PLACES c =
-    let opened = c.open_directory-opened in
-    let accepts = told-accepted opened.result.verdict _ c.in_default.is opened.ensures.judged in
-    c.refuse.ensures ∙ no_set _ _ _ accepts opened.result.directory opened.ensures.listed _ c.extinction_entry-entry.ensures c.if-entry-eq-PLACES.true
+pub returns-in_default : goal.returns-in_default
+unfolding reply_is verdict_is
+returns-in_default c =
+    let o = c.in_ok-opened.ensures in
+    let accepts = sym o.judged in
+    ap reply c.refuse.ensures.is ∙ no_set _ _ _ accepts _ (now_directory _ _ (o.opens _ refl) accepts) c.in_default.ensures
 
-pub returns-then-bytes-eq0 : goal.returns-then-bytes-eq0
-returns-then-bytes-eq0 c =
-    let opened = c.open_directory-opened in
-    let accepts = told-accepted opened.result.verdict _ c.in_default.is opened.ensures.judged in
-    c.refuse-then-bytes-eq0.ensures
-    ∙ no_record _ _ _ accepts opened.result.directory opened.ensures.listed _ c.extinction_entry-entry.ensures c.if-entry-eq-PLACES.false _ c.record_part-bytes.ensures c.if-bytes-eq0.true
+pub returns-then-is_empty : goal.returns-then-is_empty
+unfolding reply_is verdict_is
+returns-then-is_empty c =
+    let o = c.in_ok-opened.ensures in
+    let accepts = sym o.judged in
+    ap reply c.refuse-then-is_empty.ensures.is ∙ no_record _ _ _ accepts _ (now_directory _ _ (o.opens _ refl) accepts) _ c.in-Some.ensures _ c.record_part-bytes.ensures (search rules)
 
 pub pixel_in-requires : goal.pixel_in-requires
+unfolding verdict_is
 pixel_in-requires c =
-    let opened = c.open_directory-opened in
-    let accepts = told-accepted opened.result.verdict _ c.in_default.is opened.ensures.judged in
-    (handed_out _ _ 0 accepts opened.result.directory opened.ensures.listed _ c.extinction_entry-entry.ensures c.if-entry-eq-PLACES.false _ c.record_part-bytes.ensures c.if-bytes-eq0.false).1.1
+    let o = c.in_ok-opened.ensures in
+    let accepts = sym o.judged in
+    (handed_out _ _ 0 accepts _ (now_directory _ _ (o.opens _ refl) accepts) _ c.in-Some.ensures _ c.record_part-bytes.ensures (search rules)).1.1
 
 pub returns : goal.returns
+unfolding verdict_is
 returns c =
-    let opened = c.open_directory-opened in
-    let accepts = told-accepted opened.result.verdict _ c.in_default.is opened.ensures.judged in
-    c.pixel_in.ensures
-    ∙ reads _ _ _ accepts opened.result.directory opened.ensures.listed _ c.extinction_entry-entry.ensures c.if-entry-eq-PLACES.false _ c.record_part-bytes.ensures c.if-bytes-eq0.false
+    let o = c.in_ok-opened.ensures in
+    let accepts = sym o.judged in
+    c.pixel_in.ensures ∙ reads _ _ _ accepts _ (now_directory _ _ (o.opens _ refl) accepts) _ c.in-Some.ensures _ c.record_part-bytes.ensures (search rules)

@@ -10,11 +10,11 @@ use Rattle.extinction_words.proofs.Answers.{pixel-words, no_pixel_words}
 use borrow.Author.Rules.{rules}
 use Rattle.extinction_words.proofs.put_pixel.Goals as goal
 
-pub returns-in-Refused : goal.returns-in-Refused
-returns-in-Refused c = spelled (no_pixel_words c.args.answer _ c.in-Refused.is) (then c.put_refusal-next.ensures c.put_words.ensures)
+pub returns-in-Err : goal.returns-in-Err
+returns-in-Err c = spelled (no_pixel_words c.args.answer _ c.in-Err.is) (then c.put_refusal-next.ensures c.put_words-in-Err.ensures)
 
-pub returns-in-Is : goal.returns-in-Is
-returns-in-Is c =
-    let put = then c.put_words-next.ensures c.put_words-in-Is.ensures in
-    let eight : length c.value_words-words.result ≡ 8 = search rules in
-    spelled (ap (λ (l : List ℕ). 0 ∷ 0 ∷ 0 ∷ l) c.value_words-words.ensures ∙ pixel-words c.args.answer _ c.in-Is.is) (at_most 11 put (omega arith))
+pub returns-in-Ok : goal.returns-in-Ok
+returns-in-Ok c =
+    let put = then c.put_words-next.ensures c.put_words.ensures in
+    let eight : length c.value_words.result ≡ 8 = search rules in
+    spelled (ap (λ (l : List ℕ). 0 ∷ 0 ∷ 0 ∷ l) c.value_words.ensures ∙ pixel-words c.args.answer _ c.in-Ok.is) (at_most 11 put (omega arith))

@@ -1,13 +1,10 @@
-use Prim.Native.Nat.{◌-◌, ◌≤◌}
 use mathlib.Core.List.{map}
 use mathlib.Core.Path.{◌≡◌}
 use lib.Seq.{sets}
 use Rattle.layout.specs.Search.{upto}
+use Rattle.fields.specs.Kinds.{narrow_number}
 use Rattle.field_bits.specs.Bits.{field_bits}
 use Rattle.field_bits.proofs.store_fields.Given as goal
 
 abbrev pub invariant-loop-k : goal.invariant-loop-k
-invariant-loop-k l = (l.k ≤ l.count) × (l.column ≡ sets l.initial.column l.at (map (field_bits l.p l.place l.size l.offset l.kind) (upto 0 l.k)))
-
-abbrev pub decreases-loop-k : goal.decreases-loop-k
-decreases-loop-k l = l.count - l.k
+invariant-loop-k l = l.column ≡ sets l.initial.column l.at (map (field_bits l.p l.place l.size l.offset (narrow_number l.kind)) (upto 0 l.k))

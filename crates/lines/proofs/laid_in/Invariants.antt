@@ -1,4 +1,4 @@
-use Prim.Native.Nat.{◌≤◌, ◌-◌}
+use Prim.Native.Nat.{◌-◌}
 use mathlib.Core.Bool.{not}
 use mathlib.Core.Path.{◌≡◌}
 use Rattle.layout.specs.Search.{some}
@@ -6,7 +6,4 @@ use Rattle.lines.specs.Ranges.{misplaced}
 use Rattle.lines.proofs.laid_in.Given as goal
 
 abbrev pub invariant-loop-i : goal.invariant-loop-i
-invariant-loop-i l = (l.from ≤ l.i) × (l.i ≤ l.to) × (l.all ≡ not (some (misplaced l.ones l.others l.barred l.p l.at) l.from (l.i - l.from)))
-
-abbrev pub decreases-loop-i : goal.decreases-loop-i
-decreases-loop-i l = l.to - l.i
+invariant-loop-i g l = l.all ≡ not (some (misplaced l.ranges.lows l.ranges.highs l.ranges.barred l.p) l.from (l.i - l.from))

@@ -1,11 +1,5 @@
-use Prim.Native.Nat.{◌≤◌, ◌-◌}
-use lib.ListN.{length}
-use Rattle.lines.specs.Table.{row_of}
 use Rattle.lines.proofs.Rows.{Turn}
 use Rattle.lines.proofs.lines_check.Given as goal
 
-abbrev pub invariant-loop-i : goal.invariant-loop-i
-invariant-loop-i l = (l.i ≤ length l.kinds) × Turn l.template l.p (row_of l.starts l.keys l.kinds l.widths) (length l.kinds) l.from l.i
-
-abbrev pub decreases-loop-i : goal.decreases-loop-i
-decreases-loop-i l = length l.kinds - l.i
+abbrev pub invariant-loop-row : goal.invariant-loop-row
+invariant-loop-row l = Turn l.template l.p l.rows l.from l.row-index

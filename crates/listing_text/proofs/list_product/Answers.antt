@@ -8,9 +8,7 @@ pub returns-then-p-gt65536 : goal.returns-then-p-gt65536
 returns-then-p-gt65536 c = rw (longer c.args.p.now c.if-p-gt65536.true) c.write_longer.ensures
 
 pub write_listing-requires : goal.write_listing-requires
-write_listing-requires c = (omega arith, few-entries c.args.p.now _ c.open_directory-answer.ensures.listed)
+write_listing-requires c = (omega arith, few-entries c.args.p.now _ c.open_directory.ensures)
 
 pub returns : goal.returns
-returns c =
-    let opened = c.open_directory-answer in
-    rw (listed c.args.p.now c.if-p-gt65536.false _ _ opened.ensures.judged opened.ensures.listed) c.write_listing.ensures
+returns c = rw (listed c.args.p.now _ c.open_directory.ensures c.if-p-gt65536.false) c.write_listing.ensures

@@ -1,17 +1,17 @@
--- `opening::open_headers` meets its contract: the numbers are those that were read.
+-- `opening::open_headers` meets its contract.
 -- Assumes nothing.
 use native.Mathlib.Omega.{arith}
-use Rattle.opening.proofs.Opened.{stops, headers-are, opens}
+use Rattle.layout.specs.Answers.{verdict_is}
+use Rattle.layout.proofs.Replies.{handed_on}
+use Rattle.opening.proofs.Opened.{stays_closed, headers-are, opened}
 use Rattle.opening.proofs.open_headers.Goals as goal
 
-pub returns-in-Refused : goal.returns-in-Refused
-returns-in-Refused c = stops _ _ _ _ c.check_headers-headers.ensures _ _ c.refuse.ensures c.in-Refused.is
+pub returns-in_err-headers : goal.returns-in_err-headers
+unfolding verdict_is
+returns-in_err-headers c = stays_closed _ _ _ _ (handed_on _ _ c.from_residual.ensures) c.in_err-headers.ensures.judged
 
-pub overflow_mul-result : goal.overflow_mul-result
-overflow_mul-result c = let headers = headers-are _ _ _ _ c.check_headers-headers.ensures c.in_default.is in omega (arith, headers.most)
-
-pub overflow_sub-result : goal.overflow_sub-result
-overflow_sub-result c = let headers = headers-are _ _ _ _ c.check_headers-headers.ensures c.in_default.is in omega (arith, headers.room)
+pub dsds-requires : goal.dsds-requires
+dsds-requires c = omega (arith, (headers-are _ _ _ _ c.in_ok-headers.ensures).room)
 
 pub returns : goal.returns
-returns c = opens _ _ _ _ c.check_headers-headers.ensures c.in_default.is _ c.of.ensures
+returns c = opened _ _ _ _ c.in_ok-headers.ensures _ c.dsds.ensures

@@ -1,6 +1,5 @@
 -- `placement::is_clear` meets its contract.
 -- Assumes nothing.
-use mathlib.Core.Bool.{false≢true}
 use Rattle.placement.proofs.Sets.{clear_empty, clear_below, clear_above}
 use Rattle.placement.proofs.is_clear.Goals as goal
 
@@ -9,9 +8,6 @@ returns-then-size-eq0 c = λ _. clear_empty _ _ _ _ c.if-size-eq0.true
 
 pub returns-then-offset-low : goal.returns-then-offset-low
 returns-then-offset-low c = clear_below _ _ _ _ c.if-offset-low.true
-
-pub returns-then-offset-high : goal.returns-then-offset-high
-returns-then-offset-high c = λ e. absurd (false≢true e)
 
 pub returns : goal.returns
 returns c = clear_above _ _ _ _ c.if-offset-high.false

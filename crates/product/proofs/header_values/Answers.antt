@@ -1,30 +1,20 @@
 -- `product::header_values` meets its contract.
 -- Assumes nothing.
 use mathlib.Core.Path.{sym, ap, ◌∙◌}
-use Rattle.layout.specs.Answers.{verdict_is}
-use Rattle.layout.proofs.Replies.{told-refused, told-accepted}
+use Rattle.layout.specs.Answer.{is}
+use Rattle.layout.specs.Answers.{reply_is, verdict_is}
+use Rattle.layout.proofs.Replies.{handed-reply}
 use Rattle.layout.proofs.Sound.{sound}
-use Rattle.values.specs.Header.{header_for}
 use Rattle.product.proofs.header_values.Goals as goal
 
-pub returns-in-Refused : goal.returns-in-Refused
+pub returns-in_err-judge_product : goal.returns-in_err-judge_product
 unfolding verdict_is
-returns-in-Refused c =
-    let judged = c.judge_product-verdict in
-    let r = told-refused judged.result _ _ c.in-Refused.is judged.ensures in
-    let b = c.args.p.now in
-    record { judged = sym r; valued = c.none.ensures ∙ ap (λ a. header_for a b) (sym r) }
+returns-in_err-judge_product c = handed-reply _ _ _ c.from_residual.ensures ∙ rw (← c.in_err-judge_product.ensures)
 
 pub at-requires : goal.at-requires
-at-requires c =
-    let judged = c.judge_product-verdict in
-    let m = (sound _ (told-accepted judged.result _ c.in_default.is judged.ensures)).headed in
-    (m.main, m.total)
+unfolding verdict_is
+at-requires c = let m = (sound _ (sym c.in_ok-judge_product.ensures)).headed in (m.main, m.total)
 
 pub returns : goal.returns
-unfolding verdict_is
-returns c =
-    let judged = c.judge_product-verdict in
-    let a = told-accepted judged.result _ c.in_default.is judged.ensures in
-    let b = c.args.p.now in
-    record { judged = sym a; valued = c.at.ensures ∙ ap (λ x. header_for x b) (sym a) }
+unfolding reply_is verdict_is
+returns c = ap is c.at.ensures ∙ rw (← c.in_ok-judge_product.ensures)

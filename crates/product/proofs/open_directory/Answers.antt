@@ -1,35 +1,25 @@
 -- `product::open_directory` meets its contract.
 -- Assumes nothing.
-use mathlib.Core.Path.{sym, ap, ◌∙◌}
-use native.Mathlib.Omega.{arith}
-use Rattle.layout.specs.Answers.{verdict_is, directory_for}
-use Rattle.layout.proofs.Replies.{told-refused, told-accepted}
+use mathlib.Core.Path.{refl, sym, ap, ◌∙◌}
+use Rattle.layout.specs.Answer.{is}
+use Rattle.layout.specs.Answers.{reply_is, verdict_is}
+use Rattle.layout.proofs.Replies.{handed-reply}
 use Rattle.product.proofs.Calls.{now_dsds, now_few, now_directory}
 use Rattle.product.proofs.open_directory.Goals as goal
 
-pub open_headers-opened-requires : goal.open_headers-opened-requires
-open_headers-opened-requires c = omega arith
-
-pub returns-in-Refused : goal.returns-in-Refused
+pub returns-in_err-opened : goal.returns-in_err-opened
 unfolding verdict_is
-returns-in-Refused c =
-    let judged = c.judge_opened-verdict in
-    let r = told-refused judged.result _ _ c.in-Refused.is judged.ensures in
-    let b = c.args.p.now in
-    record { judged = sym r; listed = c.none.ensures ∙ ap (λ a. directory_for a b) (sym r) }
+returns-in_err-opened c = handed-reply _ _ _ c.from_residual.ensures ∙ rw (← c.in_err-opened.ensures.judged)
 
 pub directory_from-requires : goal.directory_from-requires
+unfolding verdict_is
 directory_from-requires c =
-    let judged = c.judge_opened-verdict in
-    let o = c.open_headers-opened.ensures in
-    let a = told-accepted judged.result _ c.in_default.is judged.ensures in
-    ((now_dsds _ _ o a).1, now_few _ _ o a)
+    let o = c.in_ok-opened.ensures in
+    let opens = o.opens _ refl in
+    ((now_dsds _ _ opens (sym o.judged)).1, now_few _ _ opens (sym o.judged))
 
 pub returns : goal.returns
-unfolding verdict_is
+unfolding reply_is verdict_is
 returns c =
-    let judged = c.judge_opened-verdict in
-    let o = c.open_headers-opened.ensures in
-    let a = told-accepted judged.result _ c.in_default.is judged.ensures in
-    let b = c.args.p.now in
-    record { judged = sym a; listed = c.directory_from.ensures ∙ now_directory b _ o a ∙ ap (λ x. directory_for x b) (sym a) }
+    let o = c.in_ok-opened.ensures in
+    ap is (c.directory_from.ensures ∙ now_directory _ _ (o.opens _ refl) (sym o.judged)) ∙ rw (← o.judged)

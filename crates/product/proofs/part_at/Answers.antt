@@ -10,5 +10,5 @@ pub returns : goal.returns
 unfolding part
 returns c =
     let a = c.args in
-    let q : a.place + a.size - a.place ≡ a.size = omega arith in
+    let q : a.span.place + a.span.length - a.span.place ≡ a.span.length = omega arith in
     rw q

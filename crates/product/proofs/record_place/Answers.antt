@@ -1,23 +1,16 @@
 -- `product::record_place` meets its contract.
 -- Assumes nothing.
-use mathlib.Core.Path.{sym}
-use native.Mathlib.Omega.{arith}
-use Rattle.layout.specs.Answers.{place_is}
+use mathlib.Core.Path.{refl, sym, ◌∙◌}
+use Rattle.layout.specs.Answers.{verdict_is}
 use Rattle.layout.specs.Records.{record_refusal, record_place}
-use Rattle.layout.proofs.Replies.{told-refused, told-accepted}
+use Rattle.layout.proofs.Replies.{handed-reply}
 use Rattle.product.proofs.Calls.{now_open}
 use Rattle.product.proofs.record_place.Goals as goal
 
-pub open_headers-opened-requires : goal.open_headers-opened-requires
-open_headers-opened-requires c = omega arith
-
-pub returns-in-Refused : goal.returns-in-Refused
-unfolding place_is record_place record_refusal
-returns-in-Refused c =
-    let judged = c.judge_opened-verdict in
-    sym (rw (told-refused judged.result _ _ c.in-Refused.is judged.ensures))
+pub returns-in_err-opened : goal.returns-in_err-opened
+unfolding verdict_is record_place record_refusal
+returns-in_err-opened c = handed-reply _ _ _ c.from_residual.ensures ∙ rw (← c.in_err-opened.ensures.judged)
 
 pub place_of_record-requires : goal.place_of_record-requires
-place_of_record-requires c =
-    let judged = c.judge_opened-verdict in
-    now_open _ _ c.open_headers-opened.ensures (told-accepted judged.result _ c.in_default.is judged.ensures)
+unfolding verdict_is
+place_of_record-requires c = let o = c.in_ok-opened.ensures in now_open _ _ (o.opens _ refl) (sym o.judged)

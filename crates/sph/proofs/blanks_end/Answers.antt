@@ -5,10 +5,10 @@ use Rattle.sph.proofs.LineEnds.{ends_here, blanks_here, run_within, blanks_run}
 use Rattle.sph.proofs.blanks_end.Goals as goal
 
 pub returns-then-ends_at : goal.returns-then-ends_at
-returns-then-ends_at c = let here = ends_here _ _ _ _ c.ends_at.ensures c.if-ends_at.true in blanks_here _ _ _ _ (omega arith) here.0 (omega arith) here.1
+returns-then-ends_at c = let here = ends_here _ _ _ _ c.ends_at.ensures c.if-ends_at.true in blanks_here _ _ _ here.0 (omega arith) here.1
 
 pub last_end-requires : goal.last_end-requires
-last_end-requires c = let k = run_within _ _ _ _ (omega arith) c.first_not_blank-end.ensures in (omega (arith, k.0), omega (arith, k.1), omega arith)
+last_end-requires c = let k = run_within _ _ _ _ (omega arith) c.first_not_blank-end.ensures in (omega (arith, k.1), omega arith)
 
 pub returns : goal.returns
-returns c = blanks_run _ _ _ _ _ (omega arith) (omega arith) c.first_not_blank-end.ensures c.last_end.ensures
+returns c = blanks_run _ _ _ _ (omega arith) (omega arith) c.first_not_blank-end.ensures c.last_end.ensures

@@ -7,17 +7,14 @@ use Rattle.sph.proofs.first_bad_line.Goals as goal
 pub loop-start-init : goal.loop-start-init
 loop-start-init c = reached-first _ _ _ (omega arith)
 
-pub line_end-end-requires : goal.line_end-end-requires
-line_end-end-requires c = (omega arith, omega arith)
-
-pub returns-then-end-start : goal.returns-then-end-start
-returns-then-end-start c = reached-bad _ _ _ _ c.loop-start.invariant (omega arith) (line-bad _ _ _ _ (omega arith) c.line_end-end.ensures c.if-end-start.true)
-
-pub loop-start-smaller : goal.loop-start-smaller
-loop-start-smaller c = omega (arith, (line-good _ _ _ _ (omega arith) c.line_end-end.ensures c.if-end-start.false).on)
-
-pub loop-start-preserved : goal.loop-start-preserved
-loop-start-preserved c = reached-next _ _ _ _ c.loop-start.invariant _ (line-good _ _ _ _ (omega arith) c.line_end-end.ensures c.if-end-start.false)
-
 pub returns : goal.returns
 returns c = reached_end _ _ _ _ c.loop-start.invariant (omega arith)
+
+pub returns-in_default : goal.returns-in_default
+returns-in_default c = reached-bad _ _ _ _ c.loop-start.invariant (omega arith) (line-bad _ _ _ c.in_default.ensures)
+
+pub loop-start-smaller : goal.loop-start-smaller
+loop-start-smaller c = omega (arith, (line-good _ _ _ _ c.in-Some.ensures).on)
+
+pub loop-start-preserved : goal.loop-start-preserved
+loop-start-preserved c = reached-next _ _ _ _ c.loop-start.invariant _ (line-good _ _ _ _ c.in-Some.ensures)

@@ -9,16 +9,7 @@ use Rattle.states.proofs.find_record.Goals as goal
 
 pub loop-i-init : goal.loop-i-init
 unfolding found
-loop-i-init c = (omega arith, omega arith, rw rest_whole)
-
-pub overflow_mul-at : goal.overflow_mul-at
-overflow_mul-at c = omega arith
-
-pub overflow_add-at : goal.overflow_add-at
-overflow_add-at c = omega arith
-
-pub at-state-requires : goal.at-state-requires
-at-state-requires c = omega arith
+loop-i-init c = (omega arith, rw rest_whole)
 
 pub adds_to-n-requires : goal.adds_to-n-requires
 adds_to-n-requires c = tt
@@ -31,13 +22,13 @@ overflow_mul-left c =
 pub plus-requires : goal.plus-requires
 plus-requires c =
     let l = c.loop-i in
-    (l.invariant.1, bytes_small l.left c.at-state.result.record_length (omega (arith, c.adds_to-n.ensures.1)) (search rules))
+    (l.invariant.0, bytes_small l.left c.at-state.result.record_length (omega (arith, c.adds_to-n.ensures.1)) (search rules))
 
 pub returns-then-left-n : goal.returns-then-left-n
 unfolding state_is state_from
 returns-then-left-n c =
     let l = c.loop-i in
-    record_here _ _ _ _ l.i _ _ _ l.invariant.2 (state_is c.at-state.result) _ _ (omega arith) c.at-state.ensures c.adds_to-n.ensures.0 c.if-left-n.true c.plus.ensures
+    record_here _ _ _ _ l.i _ _ _ l.invariant.1 (state_is c.at-state.result) _ _ (omega arith) c.at-state.ensures c.adds_to-n.ensures.0 c.if-left-n.true c.plus.ensures
 
 pub overflow_mul-n : goal.overflow_mul-n
 overflow_mul-n c =
@@ -48,19 +39,13 @@ overflow_mul-n c =
 pub plus-before-requires : goal.plus-before-requires
 plus-before-requires c =
     let n = c.adds_to-n in
-    (c.loop-i.invariant.1, bytes_small n.result c.at-state.result.record_length n.ensures.1 (search rules))
-
-pub overflow_add-i : goal.overflow_add-i
-overflow_add-i c = omega arith
-
-pub loop-i-smaller : goal.loop-i-smaller
-loop-i-smaller c = omega arith
+    (c.loop-i.invariant.0, bytes_small n.result c.at-state.result.record_length n.ensures.1 (search rules))
 
 pub loop-i-preserved : goal.loop-i-preserved
 unfolding state_is state_from
 loop-i-preserved c =
     let l = c.loop-i in
-    (omega arith, rw c.plus-before.ensures (capped_le _), record_later _ _ _ _ l.i _ _ _ l.invariant.2 (state_is c.at-state.result) _ _ (omega arith) c.at-state.ensures c.adds_to-n.ensures.0 c.if-left-n.false c.plus-before.ensures)
+    (rw c.plus-before.ensures (capped_le _), record_later _ _ _ _ l.i _ _ _ l.invariant.1 (state_is c.at-state.result) _ _ (omega arith) c.at-state.ensures c.adds_to-n.ensures.0 c.if-left-n.false c.plus-before.ensures)
 
 pub returns : goal.returns
-returns c = record_nowhere _ _ _ _ _ _ _ _ c.loop-i.invariant.2 c.loop-i-test.false
+returns c = record_nowhere _ _ _ _ _ _ _ _ c.loop-i.invariant.1 (omega arith)

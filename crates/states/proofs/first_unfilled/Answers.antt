@@ -1,28 +1,20 @@
--- `states::first_unfilled` meets its contract: what is left of the search from `i` on is the whole search.
+-- `states::first_unfilled` meets its contract.
 -- Assumes nothing.
-use mathlib.Core.Path.{refl, sym, ◌∙◌}
-use native.Mathlib.Omega.{arith}
+use Prim.Native.Nat.{ℕ}
+use mathlib.Core.Bool.{Bool, true, false}
+use mathlib.Core.Path.{◌≡◌}
 use native.Mathlib.Nat.{sub-zero}
-use Rattle.layout.proofs.Laws.{find_hit, find-next, find_none}
+use native.Mathlib.Omega.{arith}
+use borrow.Author.Rules.{rules}
+use Rattle.std.proofs.lemmas.Iterator.{first_from_Range}
+use Rattle.layout.proofs.Below.{first_below}
 use Rattle.states.specs.Roles.{unfilled_at}
 use Rattle.states.proofs.first_unfilled.Goals as goal
 
--- src/lib.rt:54:5
-pub loop-i-init : goal.loop-i-init
-loop-i-init c = (omega arith, (c.requires, refl))
-
--- src/lib.rt:56:13
-pub returns-then-is_unfilled : goal.returns-then-is_unfilled
-unfolding unfilled_at
-returns-then-is_unfilled c =
-    rw sub-zero at (find_hit _ _ _ _ c.loop-i.invariant.1.1 (omega arith) (sym c.is_unfilled.ensures ∙ c.if-is_unfilled.true))
-
--- src/lib.rt:54:5
-pub loop-i-preserved : goal.loop-i-preserved
-unfolding unfilled_at
-loop-i-preserved c =
-    (omega arith, (c.loop-i.invariant.1.0, find-next _ _ _ _ c.loop-i.invariant.1.1 (omega arith) (sym c.is_unfilled.ensures ∙ c.if-is_unfilled.false)))
-
--- src/lib.rt:45:1
 pub returns : goal.returns
-returns c = rw sub-zero at (find_none _ _ _ _ c.loop-i.invariant.1.1 (omega arith) (omega arith))
+unfolding unfilled_at
+returns c =
+    let sets = c.args.sets.now in
+    let t : ℕ → Bool = unfilled_at sets.roles sets.counts sets.sizes c.args.tally.now.counts c.args.tally.now.totals in
+    rw sub-zero at (first_below t 0 sets.entries (omega arith) _
+    (first_from_Range _ _ _ _ (λ i. t i ≡ true) (λ i. t i ≡ false) c.find.ensures.ran (λ x q k. search rules) (λ x q k. search rules)))

@@ -1,17 +1,16 @@
 -- `states::has_variable` meets its contract: the search found one.
 -- Assumes nothing.
-use Prim.Native.Nat.{ℕ}
-use mathlib.Core.Bool.{not}
-use mathlib.Core.Path.{sym, ap, ◌∙◌}
-use native.Mathlib.Nat.{sub-zero, zero-add}
-use lib.Dec.{eqb}
-use Rattle.layout.proofs.Laws.{some-found}
-use Rattle.states.specs.Roles.{role_within, has_variable}
+use Rattle.std.proofs.Common.{rules, tests}
+use mathlib.Core.Path.{◌∙◌}
+use lib.ListN.{take}
+use Rattle.std.proofs.lemmas.Iterator.{YieldsList-from_slice}
+use Rattle.std.proofs.lemmas.Iterator.Search.{any_from_yields_List}
+use Rattle.dsd.specs.Held.{of_variable}
+use Rattle.states.proofs.Roles.{variable_found}
 use Rattle.states.proofs.has_variable.Goals as goal
 
 pub returns : goal.returns
-unfolding has_variable
 returns c =
-    let roles = c.args.roles.now in
-    let n = c.args.entries in
-    ap (λ (r : ℕ). not (eqb r n)) (rw sub-zero at c.first_role.ensures) ∙ sym (some-found (role_within roles 1 4) 0 n ∙ rw (zero-add n))
+    let sets = c.args.sets.now in
+    let found = YieldsList-from_slice (take sets.entries sets.roles) cc in
+    any_from_yields_List of_variable _ _ c.any.result c.any.ensures.ran found (λ x b q k. search (rules, tests)) ∙ variable_found sets

@@ -3,18 +3,20 @@
 use mathlib.Core.Path.{◌∙◌}
 use native.Mathlib.Omega.{arith}
 use Rattle.layout.specs.Answers.{verdict_is}
-use Rattle.states.proofs.Roles.{all-filled, one-unfilled, unfilled-inside}
+use Rattle.states.proofs.Roles.{all-filled, one-unfilled}
 use Rattle.states.proofs.judge_filled.Goals as goal
 
-pub returns-then-unfilled-entries : goal.returns-then-unfilled-entries
+pub offset_bounds-sets-unfilled : goal.offset_bounds-sets-unfilled
+offset_bounds-sets-unfilled c = let here = c.in-Some.ensures in omega arith
+
+pub bounds-sets-unfilled : goal.bounds-sets-unfilled
+bounds-sets-unfilled c = let here = c.in-Some.ensures in omega arith
+
+pub returns-in-Some : goal.returns-in-Some
+returns-in-Some c =
+    let here = c.in-Some.ensures in
+    c.refuse.ensures.judged ∙ one-unfilled c.args.sets.now c.args.tally.now.counts c.args.tally.now.totals _ here.0 (λ q. omega arith)
+
+pub returns-in-None : goal.returns-in-None
 unfolding verdict_is
-returns-then-unfilled-entries c = all-filled _ _ _ _ c.first_unfilled-unfilled.ensures c.if-unfilled-entries.true
-
-pub offset_bounds-offsets-unfilled : goal.offset_bounds-offsets-unfilled
-offset_bounds-offsets-unfilled c = omega (arith, unfilled-inside c.args.sets _ _ _ c.first_unfilled-unfilled.ensures)
-
-pub bounds-offsets-unfilled : goal.bounds-offsets-unfilled
-bounds-offsets-unfilled c = omega (arith, unfilled-inside c.args.sets _ _ _ c.first_unfilled-unfilled.ensures)
-
-pub returns : goal.returns
-returns c = c.refuse.ensures ∙ one-unfilled _ _ _ _ c.first_unfilled-unfilled.ensures c.if-unfilled-entries.false
+returns-in-None c = all-filled c.args.sets.now c.args.tally.now.counts c.args.tally.now.totals c.in-None.ensures

@@ -19,9 +19,9 @@ pub loop-done-preserved : goal.loop-done-preserved
 loop-done-preserved g c =
     let done = c.loop-done.done in
     let room = c.loop-done.room in
-    let joined = take-put_mid done (length room - done) c.in-Ok.more room c.read.new.buf c.loop-done.invariant.within c.in-Ok.ensures.bound.0 in
+    let joined = take-put_mid done (length room - done) c.in_ok-more.more room c.read.new.buf c.loop-done.invariant.within c.in_ok-more.ensures.bound.0 in
     record {
       within = search rules;
       kept = search rules;
-      given = subst (Consumes _ _) (sym joined) (Consumes-trans _ _ _ _ _ c.loop-done.invariant.given c.in-Ok.ensures.bytes.0);
+      given = subst (Consumes _ _) (sym joined) (Consumes-trans _ _ _ _ _ c.loop-done.invariant.given c.in_ok-more.ensures.bytes.0);
     }

@@ -9,17 +9,11 @@ use Rattle.times.proofs.text_of_time.Goals as goal
 pub returns-then-not-is_time : goal.returns-then-not-is_time
 returns-then-not-is_time c =
     let kept = time-kept c.args.days c.args.seconds c.args.microseconds c.ranges.days in
-    refused-text _ c.refuse.result c.refuse.ensures (sym (ap valid_time kept) ∙ sym c.is_time.ensures ∙ c.if-not-is_time.true)
-
-pub moment_of-moment-requires : goal.moment_of-moment-requires
-moment_of-moment-requires c = told _ (sym c.is_time.ensures ∙ c.if-not-is_time.false)
-
-pub text_of-requires : goal.text_of-requires
-text_of-requires c = c.moment_of-moment.ensures.0
+    refused-text _ (sym (ap valid_time kept) ∙ sym c.is_time.ensures ∙ c.if-not-is_time.true)
 
 pub returns : goal.returns
 returns c =
     let kept = time-kept c.args.days c.args.seconds c.args.microseconds c.ranges.days in
-    let moment = c.moment_of-moment in
+    let moment = c.moment_of in
     let good = told _ (sym (ap valid_time kept) ∙ sym c.is_time.ensures ∙ c.if-not-is_time.false) in
     given-text _ moment.result _ good moment.ensures.0 (moment.ensures.1 ∙ kept) c.text_of.ensures

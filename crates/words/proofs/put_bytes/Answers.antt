@@ -1,21 +1,8 @@
--- `words::put_bytes` meets its contract. The loop's invariant: the first `i` are stored.
+-- `words::put_bytes` meets its contract: a byte's word is the byte.
 -- Assumes nothing.
-use Prim.Native.Nat.{◌+◌, ◌≤◌}
-use mathlib.Core.Path.{refl, ◌∙◌}
-use native.Mathlib.Omega.{arith}
-use native.Mathlib.Numerals.{add-one}
-use lib.ListN.{length}
-use lib.Seq.{take_all}
-use Rattle.writing.proofs.Puts.{one_more}
+use Rattle.std.proofs.lemmas.List.{map-id}
+use Rattle.writing.proofs.Puts.{spelled}
 use Rattle.words.proofs.put_bytes.Goals as goal
 
-pub loop-i-preserved : goal.loop-i-preserved
-loop-i-preserved c =
-    let turn = c.loop-i in
-    let i = turn.i in
-    let bytes = c.args.bytes.now in
-    let more : i + 1 ≤ length bytes = omega arith in
-    (more, rw (turn.invariant.1, c.wide.ensures, one_more _ bytes _ i 0 (omega arith), add-one i))
-
 pub returns : goal.returns
-returns c = record { next = refl; written = c.loop-i.invariant.1 ∙ rw (take_all c.loop-i.i c.args.bytes.now (omega arith)); narrow = omega arith }
+returns c = spelled (map-id c.args.bytes.now) c.put_each.ensures

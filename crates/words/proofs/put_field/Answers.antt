@@ -1,20 +1,13 @@
--- `words::put_field` meets its contract, by the cases of the answer.
+-- `words::put_field` meets its contract.
 -- Assumes nothing.
-use Prim.Native.Nat.{ℕ}
-use mathlib.Core.List.{List, ◌∷◌}
-use mathlib.Core.Path.{◌≡◌, ◌∙◌, ap}
 use native.Mathlib.Omega.{arith}
-use lib.ListN.{length}
+use Rattle.layout.specs.Answers.{field_answer_is}
 use Rattle.writing.proofs.Puts.{then, at_most, spelled}
-use Rattle.words.proofs.AnswerWords.{field-words, no_field_words}
-use borrow.Author.Rules.{rules}
+use Rattle.words.proofs.AnswerWords.{field-words}
+use Rattle.words.proofs.Lengths.{field_seven}
 use Rattle.words.proofs.put_field.Goals as goal
 
-pub returns-in-Refused : goal.returns-in-Refused
-returns-in-Refused c = spelled (no_field_words c.args.answer _ c.in-Refused.is) (then c.put_refusal-next.ensures c.put_words.ensures)
-
-pub returns-in-Is : goal.returns-in-Is
-returns-in-Is c =
-    let put = then c.put_words-next.ensures c.put_words-in-Is.ensures in
-    let four : length c.value_words-words.result ≡ 4 = search rules in
-    spelled (ap (λ (l : List ℕ). 0 ∷ 0 ∷ 0 ∷ l) c.value_words-words.ensures ∙ field-words c.args.answer _ c.in-Is.is) (at_most 7 put (omega arith))
+pub returns : goal.returns
+returns c =
+    let put = spelled (field-words c.args.answer _ c.map_or-words.ensures) (then c.put_verdict-next.ensures c.put_words.ensures) in
+    at_most 7 put (omega (arith, field_seven (field_answer_is c.args.answer)))

@@ -1,11 +1,10 @@
--- `words::put_place` meets its contract, by the cases of the answer.
+-- `words::put_place` meets its contract.
 -- Assumes nothing.
 use Rattle.writing.proofs.Puts.{then, spelled}
-use Rattle.words.proofs.AnswerWords.{place-words, no_place_words}
+use Rattle.words.proofs.AnswerWords.{place-words}
 use Rattle.words.proofs.put_place.Goals as goal
 
-pub returns-in-At : goal.returns-in-At
-returns-in-At c = spelled (place-words c.args.answer _ _ c.in-At.is) c.put_words.ensures
-
-pub returns-in-Refused : goal.returns-in-Refused
-returns-in-Refused c = spelled (no_place_words c.args.answer _ c.in-Refused.is) (then c.put_refusal-next.ensures c.put_words-in-Refused.ensures)
+pub returns : goal.returns
+returns c =
+    let words = rw c.unwrap_or-span.ensures at c.put_words.ensures in
+    spelled (place-words c.args.answer) (then c.put_verdict-next.ensures words)

@@ -1,11 +1,9 @@
-use Prim.Native.Nat.{◌≤◌}
+-- The name without its trailing blanks is that of its first `last` bytes.
+-- Assumes nothing.
 use mathlib.Core.Path.{◌≡◌}
 use Rattle.layout.specs.Bytes.{part}
 use Rattle.layout.specs.Listing.{trimmed}
 use Rattle.writing.proofs.name_length.Given as goal
 
-abbrev pub invariant-loop-kept : goal.invariant-loop-kept
-invariant-loop-kept l = (l.kept ≤ 28) × (trimmed (part l.names l.start 28) ≡ trimmed (part l.names l.start l.kept))
-
-abbrev pub decreases-loop-kept : goal.decreases-loop-kept
-decreases-loop-kept l = l.kept
+abbrev pub invariant-loop-last : goal.invariant-loop-last
+invariant-loop-last l = trimmed (part l.names l.start 28) ≡ trimmed (part l.names l.start l.last)

@@ -1,27 +1,15 @@
-use Prim.Native.Nat.{◌-◌, ◌≤◌, ◌<◌}
+use Prim.Native.Nat.{◌+◌, ◌*◌, ◌≤◌, ◌<◌}
+use lib.ListN.{length}
+use Rattle.layout.specs.States.{size_of_state}
 use Rattle.layout.specs.Records.{variable_lengths}
-use Rattle.states.specs.States.{states_from}
+use Rattle.dsd.specs.Held.{kind_number}
 use Rattle.states.proofs.Laws.{rest_from}
-use Rattle.column.proofs.Walk.{Walked}
-use Rattle.layout.specs.Records.{variable_lengths}
-use Rattle.states.specs.States.{states_from}
-use Rattle.states.proofs.Laws.{rest_from}
-use Rattle.column.proofs.Walk.{Walked}
-use Rattle.layout.specs.Records.{variable_lengths}
-use Rattle.states.specs.States.{states_from}
-use Rattle.states.proofs.Laws.{rest_from}
-use Rattle.column.proofs.Walk.{Walked}
-use Rattle.layout.specs.Records.{variable_lengths}
-use Rattle.states.specs.States.{states_from}
-use Rattle.states.proofs.Laws.{rest_from}
+use Rattle.column.proofs.Asked.{ns, begin}
 use Rattle.column.proofs.Walk.{Walked}
 use Rattle.column.proofs.gathering.gather_states.Given as goal
 
 abbrev pub invariant-loop-i : goal.invariant-loop-i
 invariant-loop-i l =
-    (l.i ≤ l.states)
+    (l.span.place + size_of_state * l.span.count ≤ length l.p)
     × (l.first < l.request.to)
-    × Walked l.p l.entry l.request l.begin (variable_lengths (states_from l.p l.span.place l.span.count) l.kind) l.initial.column (variable_lengths (rest_from l.p l.span.place l.span.count l.i) l.kind) l.first l.place l.column
-
-abbrev pub decreases-loop-i : goal.decreases-loop-i
-decreases-loop-i l = l.states - l.i
+    × Walked l.p l.request (begin l.p l.request) (ns l.p l.request) l.initial.column (variable_lengths (rest_from l.p l.span.place l.span.count l.i) (kind_number l.kind)) l.first l.place l.column

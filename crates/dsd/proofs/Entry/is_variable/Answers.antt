@@ -1,6 +1,6 @@
 -- `dsd::Entry::is_variable` meets its contract.
 -- Assumes nothing.
-use borrow.Author.Tests.{ne_eqb, lt-ltb, le-ltb, not-true, not-false}
+use borrow.Author.Tests.{ne_eqb, le-ltb, not-true, not-false}
 use mathlib.Core.Bool.{and-false}
 use native.Mathlib.Omega.{arith}
 use Rattle.layout.specs.Entries.{is_variable}
@@ -35,15 +35,9 @@ pub returns-then-self-ne77 : goal.returns-then-self-ne77
 unfolding is_variable view_of number_from
 returns-then-self-ne77 c = rw (ne_eqb c.args.self.ds_type 77 c.if-self-ne77.true, and-false, and-false)
 
-pub returns-then-self-eq0-2 : goal.returns-then-self-eq0-2
-unfolding is_variable
-returns-then-self-eq0-2 c =
-    let self = c.args.self in
-    rw (view_named self, le-ltb 0 self.name_role (omega arith), and-false, and-false, and-false)
-
 pub returns : goal.returns
 unfolding is_variable
 returns c =
     let self = c.args.self in
-    rw (view_named self, lt-ltb 0 self.name_role (omega arith))
+    rw (view_named self, c.is_variable.ensures)
     (all_pass self c.if-self.false c.if-self-eq0.false (not-false self.record_size.minus c.if-not-self.false) c.if-self-ne1.false c.if-self-ne77.false)

@@ -1,21 +1,19 @@
--- `times::texts::is_formed` meets its contract: what the bytes so far are short of, put together.
+-- `times::texts::is_formed` meets its contract: by how much the bytes so far are out of their bounds, put together.
 -- Assumes nothing.
+use mathlib.Core.Path.{◌≡◌, refl, ◌∙◌}
 use native.Mathlib.Omega.{arith}
-use Rattle.layout.specs.Bytes.{part, byte_at}
-use Rattle.times.specs.Formed.{lowest, highest, formed}
-use Rattle.times.proofs.Blocks.{none_short, both_short, all_short}
+use Rattle.layout.specs.Search.{some}
+use Rattle.times.specs.Formed.{formed}
+use Rattle.times.proofs.Blocks.{more_short, all_short}
 use Rattle.times.proofs.texts.is_formed.Goals as goal
 
 pub loop-i-init : goal.loop-i-init
-loop-i-init c = (omega arith, none_short c.args.text.now)
+unfolding some
+loop-i-init c = refl
 
 pub loop-i-preserved : goal.loop-i-preserved
-unfolding lowest highest part byte_at
-loop-i-preserved c =
-    let t = c.args.text.now in
-    let loop = c.loop-i in
-    (omega arith, both_short t loop.i loop.short loop.invariant.1 c.short_of.ensures c.short_of-in-loop-i.ensures c.short_of-in-loop-i-2.ensures c.short_of-in-loop-i-3.ensures)
+loop-i-preserved c = more_short c.args.text.now c.loop-i.i c.loop-i.short _ _ c.loop-i.invariant c.misfit.ensures c.misfit-in-loop-i.ensures
 
 pub returns : goal.returns
 unfolding formed
-returns c = all_short c.args.text.now c.loop-i.i c.loop-i.short (omega arith) (omega arith) c.loop-i.invariant.1
+returns c = let e : c.loop-i.i ≡ 16 = omega arith in rw e at c.loop-i.invariant ∙ all_short c.args.text.now

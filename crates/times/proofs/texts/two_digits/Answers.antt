@@ -1,9 +1,8 @@
 -- `times::texts::two_digits` meets its contract.
 -- Assumes nothing.
-use mathlib.Core.Path.{refl}
-use Rattle.times.specs.Formed.{pair_of}
+use mathlib.Core.Path.{◌∙◌}
+use Rattle.times.proofs.Written.{in_pair}
 use Rattle.times.proofs.texts.two_digits.Goals as goal
 
 pub returns : goal.returns
-unfolding pair_of
-returns c = refl
+returns c = c.to_le_bytes.ensures ∙ in_pair c.args.number c.requires

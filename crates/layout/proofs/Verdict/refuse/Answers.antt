@@ -1,9 +1,0 @@
--- `layout::Verdict::refuse` meets its contract.
--- Assumes nothing.
-use mathlib.Core.Path.{refl}
-use Rattle.layout.specs.Answers.{verdict_is}
-use Rattle.layout.proofs.Verdict.refuse.Goals as goal
-
-pub returns : goal.returns
-unfolding verdict_is
-returns c = refl
