@@ -80,6 +80,12 @@ module _ (t : ℕ → Bool) where
   pub skipped_on : (from to i r : ℕ) → Skipped t from to i → Skipped t i to r → Skipped t from to r
   skipped_on from to i r so on = record { low = omega (arith, so.low, on.low); high = on.high; left = so.left ∙ on.left }
 
+  -- a block by itself, then blocks of one width, then of another
+  pub skipped_run : (from to n w r : ℕ) (all : Bool) → from + n ≤ to → all ≡ not (some t from n) → all ≡ true → Skipped t (from + n) to w → Skipped t w to r → Skipped t from to r
+  skipped_run from to n w r all h e g wide narrow =
+      let block : Skipped t from to (from + n) = record { low = omega arith; high = h; left = find_past from (from + n) to (omega arith) h (tested n from all e g) } in
+      skipped_on from to (from + n) r block (skipped_on (from + n) to w r wide narrow)
+
 -- ---- the code's words for a class of bytes
 
 module _ (test : ℕ → Bool) where
