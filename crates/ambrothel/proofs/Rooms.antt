@@ -1,6 +1,7 @@
 -- How long the answer of `ambrothel_open_directory` is, whatever the product, and that what is put of an opened product is that answer.
 -- Assumes nothing.
 use Rattle.std.specs.Prelude.{Result, Ok, Err}
+use Rattle.std.specs.Result.{result_unwrap_or}
 use Prim.Native.Nat.{ℕ, ◌+◌, ◌*◌, ◌≤◌}
 use mathlib.Core.List.{List, map}
 use mathlib.Core.Path.{◌≡◌, refl, sym, ap}
@@ -15,9 +16,8 @@ use Rattle.layout.specs.Rules.{verdict}
 use Rattle.layout.specs.Answers.{reply_is, reply, verdict_is, padded, type_of, count_of, record_size_of, directory_of, no_directory, directory_for}
 use Rattle.layout.specs.declared.Refusal.{Refusal}
 use Rattle.layout.proofs.Replies.{else_is, else_refusal}
-use Rattle.values.specs.Header.{header_of, header_for}
+use Rattle.values.specs.Header.{header_of, no_header, header_for}
 use Rattle.values.specs.declared.MainHeader.{MainHeader}
-use Rattle.words.specs.Rooms.{header_shown}
 use Rattle.layout.proofs.Sound.{length-map-upto, length-directory, accepted-entries}
 use Rattle.writing.specs.Put.{Put}
 use Rattle.writing.proofs.Puts.{then, spelled}
@@ -25,8 +25,7 @@ use Rattle.ranks.specs.Ranks.{ranks_by}
 use Rattle.directory.specs.Numbers.{directory_with}
 use Rattle.directory.specs.declared.Sets.{Sets}
 use Rattle.directory.proofs.Texts.{padded-long, names-long, filenames-long}
-use Rattle.opening.specs.Opening.{OpenedWhole}
-use Rattle.opening.specs.declared.Opening.{Opening}
+use Rattle.opening.specs.Opening.{OpenedInto}
 use Rattle.product.proofs.Calls.{now_dsds, now_few, now_directory}
 use Rattle.words.specs.Headers.{number_words, directory_words, directory_texts}
 use Rattle.words.proofs.Lengths.{directory-words, directory-texts}
@@ -71,12 +70,12 @@ pub record Held (b : List ℕ) (dsds : ℕ) (sets : Sets) : Type 0 where
   pub listed : directory_with sets (entries_from b dsds sets.entries) ≡ directory_of (directory b)
 
 -- an accepted product's opening holds them
-pub opened_held : (b : List ℕ) (o : Opening) → OpenedWhole b (Ok o) → Held b o.dsds o.sets
+pub opened_held : (b : List ℕ) (dsds : ℕ) (sets : Sets) → OpenedInto b (Ok dsds) sets → Held b dsds sets
 unfolding verdict_is
-opened_held b o opened =
+opened_held b dsds sets opened =
     let a = sym opened.judged in
-    let opens = opened.opens o refl in
-    record { accepts = a; inside = (now_dsds b o opens a).1; few = now_few b o opens a; listed = now_directory b o opens a }
+    let opens = opened.opens dsds refl in
+    record { accepts = a; inside = (now_dsds b _ opens a).1; few = now_few b _ opens a; listed = now_directory b _ opens a }
 
 module _ (b : List ℕ) (dsds : ℕ) (sets : Sets) (h : Held b dsds sets) where
   abbrev ds : List Entry
@@ -104,8 +103,8 @@ module _ (b : List ℕ) (dsds : ℕ) (sets : Sets) (h : Held b dsds sets) where
 
 -- ---- the main header
 
--- what is shown of the answer is the product's verdict and header
-pub header_told : (b : List ℕ) (r : Result MainHeader Refusal) → reply r ≡ (verdict b else header_of b) → (verdict_is r ≡ verdict b) × (header_shown r ≡ header_for (verdict b) b)
-unfolding reply_is verdict_is header_shown
+-- the answer's verdict and header, none beside a refusal, are the product's
+pub header_told : (b : List ℕ) (r : Result MainHeader Refusal) → reply r ≡ (verdict b else header_of b) → (verdict_is r ≡ verdict b) × (result_unwrap_or r no_header ≡ header_for (verdict b) b)
+unfolding reply_is verdict_is
 header_told b (Ok h) e = let q = else_is (verdict b) (header_of b) h (sym e) in (sym q.0, rw q.0 (sym q.1))
 header_told b (Err f) e = let q = else_refusal (verdict b) (header_of b) f.number f.place f.entry (sym e) in (sym q, rw q)

@@ -17,9 +17,12 @@ ghost use Rattle.column.specs.Column.{column_reply};
 ghost use Rattle.ambrothel.specs.Calls.{DirectoryCall, HeaderCall, ColumnCall};
 
 use column::put_column;
+use directory::Sets;
 use extinction_words::{put_model, put_pixel};
+use layout::Directory;
 use placement::Extents;
 use time_words::{put_time, put_whole_text};
+use values::MainHeader;
 use words::{
     ROOM_TOO_SHORT, WRITTEN, put_directory_numbers, put_doubles, put_field, put_part, put_place,
     put_point, put_verdict, put_whole_directory, put_whole_header,
@@ -45,11 +48,13 @@ pub fn ambrothel_open_directory(p: &[u8], words: &mut [u64], texts: &mut [u8]) -
     if texts.len() < 11520 {
         return ROOM_TOO_SHORT;
     }
-    let opened = match opening::open_product(p) {
-        Ok(opened) => opened,
-        Err(refusal) => return put_whole_directory(Err(refusal), words, texts),
+    let mut sets = Sets::none();
+    let dsds = match opening::open_sets(p, &mut sets) {
+        Ok(dsds) => dsds,
+        Err(refusal) => {
+            return put_whole_directory(Err(refusal), &Directory::none(), words, texts);
+        }
     };
-    let sets = opened.sets;
     let entries = sets.entries;
     let mut ranks = [0u64; 128];
     let extents = Extents {
@@ -69,7 +74,6 @@ pub fn ambrothel_open_directory(p: &[u8], words: &mut [u64], texts: &mut [u8]) -
         &sets.record_sizes,
         &ranks,
     );
-    let dsds = opened.dsds;
     let named = directory::put_names(texts, 0, p, dsds, entries);
     directory::put_filenames(texts, named, p, dsds, entries);
     WRITTEN
@@ -78,7 +82,10 @@ pub fn ambrothel_open_directory(p: &[u8], words: &mut [u64], texts: &mut [u8]) -
 pub fn ambrothel_header_values(p: &[u8], words: &mut [u64], texts: &mut [u8]) -> u32
     ensures { HeaderCall p.now words.old words.new texts.old texts.new result }
 {
-    put_whole_header(product::header_values(p), words, texts)
+    match product::header_values(p) {
+        Ok(header) => put_whole_header(Ok(()), header, words, texts),
+        Err(refusal) => put_whole_header(Err(refusal), MainHeader::none(), words, texts),
+    }
 }
 
 pub fn ambrothel_sph_place(p: &[u8], words: &mut [u64]) -> u32
@@ -220,6 +227,8 @@ pub fn ambrothel_text_of_time(
 ) -> u32
     ensures { TextRooms (record { days = days; seconds = seconds; microseconds = microseconds }) words.old words.new text.old text.new result }
 {
-    let answer = times::text_of_time(days, seconds, microseconds);
-    put_whole_text(answer, words, text)
+    match times::text_of_time(days, seconds, microseconds) {
+        Ok(bytes) => put_whole_text(Ok(()), &bytes, words, text),
+        Err(refusal) => put_whole_text(Err(refusal), &[0; 27], words, text),
+    }
 }

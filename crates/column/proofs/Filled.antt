@@ -13,8 +13,8 @@ use Rattle.layout.specs.Rules.{verdict}
 use Rattle.layout.specs.Answers.{verdict_is}
 use Rattle.layout.specs.declared.Refusal.{Refusal}
 use Rattle.layout.proofs.Replies.{handed-verdict}
-use Rattle.opening.specs.Opening.{OpenedWhole}
-use Rattle.opening.specs.declared.Opening.{Opening}
+use Rattle.opening.specs.Opening.{OpenedInto}
+use Rattle.directory.specs.declared.Sets.{Sets}
 use Rattle.product.proofs.Calls.{now_open}
 use Rattle.records.specs.Open.{Open}
 use Rattle.records.proofs.Laws.{entries-held}
@@ -65,29 +65,29 @@ module _ (b : List ℕ) (entry from to offset kind room : ℕ) where
   own_refusal f h = rw (← h)
 
   -- the request's, of an accepted product
-  module _ (o : Opening) (whole : OpenedWhole b (Ok o)) where
-    opened : Open b o.sets
+  module _ (dsds : ℕ) (sets : Sets) (into : OpenedInto b (Ok dsds) sets) where
+    opened : Open b sets
     unfolding verdict_is
-    opened = now_open b o (whole.opens o refl) (sym whole.judged)
+    opened = now_open b (record { dsds = dsds; sets = sets }) (into.opens dsds refl) (sym into.judged)
 
-    request_refused : (f : Refusal) → refused f.number f.place f.entry ≡ request_refusal o.sets.entries entry from to kind room → refused f.number f.place f.entry ≡ refusal_of reply
+    request_refused : (f : Refusal) → refused f.number f.place f.entry ≡ request_refusal sets.entries entry from to kind room → refused f.number f.place f.entry ≡ refusal_of reply
     unfolding column_reply refusal_of
-    request_refused f h = rw (opened.accepts, ← entries-held b o.sets opened, ← h) refl
+    request_refused f h = rw (opened.accepts, ← entries-held b sets opened, ← h) refl
 
-    pub kind_refused : (f : Refusal) → refused f.number f.place f.entry ≡ kind_refusal o.sets.entries entry kind → refused f.number f.place f.entry ≡ refusal_of reply
-    kind_refused f h = request_refused f (rw (in_two o.sets.entries entry from to kind room, ← h))
+    pub kind_refused : (f : Refusal) → refused f.number f.place f.entry ≡ kind_refusal sets.entries entry kind → refused f.number f.place f.entry ≡ refusal_of reply
+    kind_refused f h = request_refused f (rw (in_two sets.entries entry from to kind room, ← h))
 
-    module _ (narrow : accepted ≡ kind_refusal o.sets.entries entry kind) where
+    module _ (narrow : accepted ≡ kind_refusal sets.entries entry kind) where
       pub count_refused : (f : Refusal) → refused f.number f.place f.entry ≡ count_refusal from to room → refused f.number f.place f.entry ≡ refusal_of reply
-      count_refused f h = request_refused f (rw (in_two o.sets.entries entry from to kind room, ← narrow, ← h))
+      count_refused f h = request_refused f (rw (in_two sets.entries entry from to kind room, ← narrow, ← h))
 
       module _ (few : accepted ≡ count_refusal from to room) where
-        good : request_refusal o.sets.entries entry from to kind room ≡ accepted
-        good = rw (in_two o.sets.entries entry from to kind room, ← narrow, ← few)
+        good : request_refusal sets.entries entry from to kind room ≡ accepted
+        good = rw (in_two sets.entries entry from to kind room, ← narrow, ← few)
 
         one_by_one : reply ≡ together (map (asked b entry offset kind) (upto from (to - from)))
         unfolding column_reply
-        one_by_one = rw (opened.accepts, ← entries-held b o.sets opened, good) refl
+        one_by_one = rw (opened.accepts, ← entries-held b sets opened, good) refl
 
         pub none-asked : from ≡ to → reply ≡ is []
         unfolding together
@@ -98,11 +98,11 @@ module _ (b : List ℕ) (entry from to offset kind room : ℕ) where
           abbrev q : Request
           q = record { entry = entry; from = from; to = to; offset = offset; kind = its }
 
-          pub request_allowed : (from ≡ to → ⊥) → Allowed b o.sets q 512 × (to - from ≤ room)
+          pub request_allowed : (from ≡ to → ⊥) → Allowed b sets q 512 × (to - from ≤ room)
           request_allowed other =
-              let w = good-says o.sets.entries entry from to kind room good in
+              let w = good-says sets.entries entry from to kind room good in
               (record { opened = opened; there = w.0; fits = record { some = omega (arith, w.1.1.0.1.0); few = w.1.1.0.1.1 } }, w.1.1.1)
 
           -- the single requests' replies are left, which the set gives
           pub by_the_set : {old new : List ℕ} {v : Result (Unit {0}) Refusal} → ColumnIs (entry_reply b q) old new v → ColumnIs reply old new v
-          by_the_set c = rw (one_by_one, ← numbered, all_asked b o.sets opened q (good-says o.sets.entries entry from to kind room good).0) c
+          by_the_set c = rw (one_by_one, ← numbered, all_asked b sets opened q (good-says sets.entries entry from to kind room good).0) c

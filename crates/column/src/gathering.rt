@@ -92,6 +92,7 @@ fn gather_states(
     ensures { Gathered (entry_reply p.now request) 0 column.old column.new result }
 {
     let span = states::states_span(sets);
+    let number = kind.number();
     let mut first = 0;
     let mut place = sets.offsets[request.entry] as usize;
     for i in 0..span.count as usize {
@@ -99,7 +100,7 @@ fn gather_states(
         let run = Run {
             first,
             place,
-            count: state.adds_to(kind) as usize,
+            count: state.adds_to(number) as usize,
             size: state.record_length as usize,
         };
         gather_run(column, p, run, request)?;

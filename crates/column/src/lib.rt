@@ -74,8 +74,9 @@ pub fn put_column(
 ) -> Result<(), Refusal>
     ensures { ColumnIs (column_reply p.now entry from to offset kind (length room.old)) room.old room.new result }
 {
-    let opened = opening::open_product(p)?;
-    let kind = narrow_kind(opened.sets.entries, entry, kind)?;
+    let mut sets = Sets::none();
+    opening::open_sets(p, &mut sets)?;
+    let kind = narrow_kind(sets.entries, entry, kind)?;
     let request = Request {
         entry,
         from,
@@ -88,5 +89,5 @@ pub fn put_column(
         return Ok(());
     }
     let mut column = [0u32; 512];
-    put_gathered(room, &mut column, p, &opened.sets, request)
+    put_gathered(room, &mut column, p, &sets, request)
 }

@@ -2,7 +2,7 @@
 #![tactic(auto)]
 
 ghost use Rattle.std.specs.Prelude.{cond, ◌≡◌, ℕ, ◌+◌, ◌*◌, ◌≤◌, ◌<◌, leb, ltb, length};
-ghost use Rattle.layout.specs.Answers.{verdict_is, directory_of};
+ghost use Rattle.layout.specs.Answers.{verdict_is, directory_of, no_directory};
 ghost use Rattle.layout.specs.Bytes.{part};
 ghost use Rattle.layout.specs.Entries.{largest_signed, entries_from, directory};
 ghost use Rattle.layout.specs.Lines.{size_of_dsd};
@@ -236,32 +236,35 @@ pub fn put_filenames(room: &mut [u8], at: usize, p: &[u8], from: usize, n: usize
     put_texts(room, at, p, from, n, 59, 62)
 }
 
-// The directory of the DSDs that begin at a place, whose numbers are at hand: a product's, or those that a host holds.
-pub fn directory_from(p: &[u8], from: usize, sets: &Sets) -> Directory
-    requires { (from + size_of_dsd * sets.now.entries ≤ length p.now) × (sets.now.entries ≤ 128) }
-    ensures { result ≡ directory_with sets.now (entries_from p.now from sets.now.entries) }
+// The directory of the DSDs that begin at a place, whose numbers are at hand: a product's, or those that a host holds; put into one that the caller lends, since
+// it is 16.8 kB, which an answer copies at each return.
+pub fn fill_directory(directory: &mut Directory, p: &[u8], from: usize, sets: &Sets)
+    requires { (from + size_of_dsd * sets.now.entries ≤ length p.now) × (sets.now.entries ≤ 128) × (directory.old ≡ no_directory) }
+    ensures { directory.new ≡ directory_with sets.now (entries_from p.now from sets.now.entries) }
 {
     let entries = sets.entries;
-    let mut names = [0u8; 3584];
-    let mut filenames = [0u8; 7936];
-    let mut ranks = [0u64; 128];
-    put_names(&mut names, 0, p, from, entries);
-    put_filenames(&mut filenames, 0, p, from, entries);
+    directory.entries = entries;
+    directory.types = sets.types;
+    directory.offsets = sets.offsets;
+    directory.sizes = sets.sizes;
+    directory.counts = sets.counts;
+    directory.record_sizes = sets.record_sizes;
+    put_names(&mut directory.names, 0, p, from, entries);
+    put_filenames(&mut directory.filenames, 0, p, from, entries);
     let extents = Extents {
         offsets: &sets.offsets,
         sizes: &sets.sizes,
         entries,
     };
-    ranks::rank_sets(extents, &mut ranks);
-    Directory {
-        entries,
-        types: sets.types,
-        names,
-        filenames,
-        offsets: sets.offsets,
-        sizes: sets.sizes,
-        counts: sets.counts,
-        record_sizes: sets.record_sizes,
-        ranks,
-    }
+    ranks::rank_sets(extents, &mut directory.ranks);
+}
+
+// The same directory as an answer.
+pub fn directory_from(p: &[u8], from: usize, sets: &Sets) -> Directory
+    requires { (from + size_of_dsd * sets.now.entries ≤ length p.now) × (sets.now.entries ≤ 128) }
+    ensures { result ≡ directory_with sets.now (entries_from p.now from sets.now.entries) }
+{
+    let mut directory = Directory::none();
+    fill_directory(&mut directory, p, from, sets);
+    directory
 }

@@ -3,19 +3,21 @@
 use mathlib.Core.Bool.{Bool, true, false, cond, ◌&&◌, ◌||◌, not, and-true, and-false, and_assoc}
 use mathlib.Core.Path.{◌≡◌, refl, sym, ◌∙◌}
 use native.Mathlib.Omega.{arith}
+use Prim.Native.Nat.{◌<◌}
 use lib.Dec.{ltb, eqb}
 use lib.IntN.{pos, negsuc}
 use lib.Signed.{le_z, lt_z}
 use borrow.Author.Tests.{eq-eqb, ne_eqb, lt-ltb, le-ltb, le-leb, lt-leb}
 use Rattle.layout.specs.Text.{whole}
 use Rattle.layout.specs.Entries.{Entry, eq_z, kind_of, is_data, non_empty, is_reference, all_zero, in_range, is_fixed, is_variable, is_states, set_fits, numbers_fit}
+use Rattle.layout.proofs.Tests.{variable_T, variable_kind}
 use Rattle.dsd.specs.declared.Kind.TheVariants.{Nadir, Limb, Occultation, Monitoring}
 use Rattle.dsd.specs.declared.Role.{Role}
-use Rattle.dsd.specs.declared.Role.TheVariants.{Other, Variable, States}
+use Rattle.dsd.specs.declared.Role.TheVariants.{Other, Variable, States, Unknown}
 use Rattle.dsd.specs.Held.{kind_number, role_number, of_variable, of_states, number_from, view_of, role_of}
 use Rattle.dsd.specs.declared.Entry.{Entry as HeldEntry}
 use Rattle.dsd.proofs.Numbers.{is_zero, above, from_one, plus, both_pass, is-minus-one}
-use Rattle.dsd.proofs.Names.{states_number, kind_role, states_by_role, role_text}
+use Rattle.dsd.proofs.Names.{states_number, kind_role, states_by_role, role_text, known_number, variable_known}
 
 -- ---- a set whose numbers are in range
 
@@ -83,7 +85,7 @@ module _ (e : Entry) where
 module _ (h : HeldEntry) where
   pub view_named : ltb 0 (kind_of (view_of h)) ≡ of_variable h.name_role
   unfolding view_of role_number kind_number of_variable
-  view_named = rw (kind_role (view_of h), role_text h.name_role) (go h.name_role)
+  view_named = rw (kind_role (view_of h), role_text h.name_role, known_number h.name_role) (go h.name_role)
     where
       go : (r : Role) → ltb 0 (cond (ltb (role_number r) 5) (role_number r) 0) ≡ of_variable r
       go (Variable Nadir) = refl
@@ -92,10 +94,11 @@ module _ (h : HeldEntry) where
       go (Variable Monitoring) = refl
       go States = refl
       go Other = refl
+      go (Unknown n) = refl
 
   view_states : is_states (view_of h) ≡ (eqb h.ds_type 65 && of_states h.name_role)
   unfolding view_of
-  view_states = rw (states_by_role (view_of h), role_text h.name_role, states_number h.name_role)
+  view_states = rw (states_by_role (view_of h), role_text h.name_role, known_number h.name_role, states_number h.name_role)
 
   -- all but the name passes, t says of the name
   pub all_pass : {t : Bool} → h.size.minus ≡ false → (h.size.magnitude ≡ 0 → ⊥) → h.record_size.minus ≡ true → h.record_size.magnitude ≡ 1 → h.ds_type ≡ 77
@@ -106,7 +109,10 @@ module _ (h : HeldEntry) where
 
   pub role_variable : is_variable (view_of h) ≡ true → h.name_role ≡ role_of (view_of h)
   unfolding role_of view_of
-  role_variable v = rw (v, role_text h.name_role)
+  role_variable v = rw (v, role_text h.name_role) (variable_known h.name_role (sym view_named ∙ lt-ltb 0 (kind_of (view_of h)) some))
+    where
+      some : 0 < kind_of (view_of h)
+      some = (variable_kind (view_of h) ((variable_T (view_of h)).0 (rw v tt))).0
 
   module _ (v : is_variable (view_of h) ≡ false) where
     pub role_other : (h.ds_type ≡ 65 → ⊥) → Other ≡ role_of (view_of h)

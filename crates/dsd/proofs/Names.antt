@@ -1,6 +1,6 @@
 -- The names that rules 10, 15 and 16 ask for: a name's role, and a name of a role.
 -- Assumes nothing.
-use Prim.Native.Nat.{ℕ, ◌+◌, ◌<◌}
+use Prim.Native.Nat.{ℕ, zero, suc, ◌+◌, ◌<◌, ◌≤◌}
 use mathlib.Core.Bool.{Bool, true, false, cond, ◌&&◌}
 use mathlib.Core.List.{List, [], ◌∷◌}
 use mathlib.Core.Path.{◌≡◌, refl, sym, ◌∙◌}
@@ -15,8 +15,8 @@ use Rattle.dsd.specs.contracts.Kind.{the_type}
 use Rattle.dsd.specs.declared.Kind.{Kind}
 use Rattle.dsd.specs.declared.Kind.TheVariants.{Nadir, Limb, Occultation, Monitoring}
 use Rattle.dsd.specs.declared.Role.{Role}
-use Rattle.dsd.specs.declared.Role.TheVariants.{Other, Variable, States}
-use Rattle.dsd.specs.Held.{kind_number, role_number, of_variable, of_states, name_role, name_text, role_of}
+use Rattle.dsd.specs.declared.Role.TheVariants.{Other, Variable, States, Unknown}
+use Rattle.dsd.specs.Held.{kind_number, role_number, role_numbered, of_variable, of_states, name_role, name_text, role_of}
 
 -- ---- numbers
 
@@ -44,6 +44,7 @@ variable_number (Variable Occultation) = refl
 variable_number (Variable Monitoring) = refl
 variable_number States = refl
 variable_number Other = refl
+variable_number (Unknown n) = refl
 
 pub states_number : (r : Role) → of_states r ≡ eqb (role_number r) 5
 unfolding of_states role_number kind_number
@@ -53,6 +54,7 @@ states_number (Variable Occultation) = refl
 states_number (Variable Monitoring) = refl
 states_number States = refl
 states_number Other = refl
+states_number (Unknown n) = refl
 
 -- ---- roles
 
@@ -106,15 +108,68 @@ pub states_by_role : (e : Entry) → is_states e ≡ (eqb e.type 65 && eqb (role
 unfolding is_states
 states_by_role e = rw (states_role e.name)
 
+-- a role that a name has; a number that is no role's says no more than Other
+pub known : Role → Role
+known Other = Other
+known (Variable kind) = Variable kind
+known States = States
+known (Unknown n) = Other
+
+pub known_number : (r : Role) → role_number (known r) ≡ role_number r
+unfolding known role_number
+known_number Other = refl
+known_number (Variable kind) = refl
+known_number States = refl
+known_number (Unknown n) = refl
+
 -- a role's name has that role
-pub role_text : (r : Role) → name_role (name_text r) ≡ r
-unfolding name_role name_text called
+pub role_text : (r : Role) → name_role (name_text r) ≡ known r
+unfolding name_role name_text called known
 role_text (Variable Nadir) = refl
 role_text (Variable Limb) = refl
 role_text (Variable Occultation) = refl
 role_text (Variable Monitoring) = refl
 role_text States = refl
 role_text Other = refl
+role_text (Unknown n) = refl
+
+pub variable_known : (r : Role) → of_variable r ≡ true → r ≡ known r
+unfolding of_variable known
+variable_known (Variable kind) v = refl
+variable_known States v = cc
+variable_known Other v = refl
+variable_known (Unknown n) v = cc
+
+-- a name's role is one that a name has
+pub name_known : (name : List ℕ) → name_role (name_text (name_role name)) ≡ name_role name
+unfolding name_role known
+name_known name =
+    role_text (name_role name)
+    ∙ go (called name (bytes "NADIR")) (called name (bytes "LIMB")) (called name (bytes "OCCULTATION")) (called name (bytes "MONITORING")) (called name (bytes "STATES"))
+  where
+    go : (n l o m s : Bool) → known (role n l o m s) ≡ role n l o m s
+    go true l o m s = refl
+    go false true o m s = refl
+    go false false true m s = refl
+    go false false false true s = refl
+    go false false false false true = refl
+    go false false false false false = refl
+
+-- a number up to 5 is that of its role; any other is kept
+pub numbered_number : (n : ℕ) → n < 6 → role_number (role_numbered n) ≡ n
+unfolding role_number role_numbered kind_number
+numbered_number zero h = refl
+numbered_number (suc zero) h = refl
+numbered_number (suc (suc zero)) h = refl
+numbered_number (suc (suc (suc zero))) h = refl
+numbered_number (suc (suc (suc (suc zero)))) h = refl
+numbered_number (suc (suc (suc (suc (suc zero))))) h = refl
+numbered_number (suc (suc (suc (suc (suc (suc n)))))) h = absurd (omega (arith, h))
+
+pub numbered_unknown : (n : ℕ) → 6 ≤ n → role_numbered n ≡ Unknown n
+unfolding role_numbered
+numbered_unknown n h =
+    rw (ne_eqb n 0 (λ q. omega arith), ne_eqb n 1 (λ q. omega arith), ne_eqb n 2 (λ q. omega arith), ne_eqb n 3 (λ q. omega arith), ne_eqb n 4 (λ q. omega arith), ne_eqb n 5 (λ q. omega arith))
 
 -- a variable set's name is that of its kind
 pub named : (e : Entry) → is_variable e ≡ true → (k : Kind) × (name_role e.name ≡ Variable k) × (kind_number k ≡ kind_of e)
@@ -129,6 +184,7 @@ named e v = go (name_role e.name) refl (kind_role e)
     go (Variable k) q n = (k, q, sym (rw (q, lt-ltb (kind_number k) 5 (kind_range k).1) at n))
     go States q n = absurd (omega (arith, some, rw q at n))
     go Other q n = absurd (omega (arith, some, rw q at n))
+    go (Unknown m) q n = absurd (omega (arith, some, rw q at n))
 
 -- a role's number is a variable set's kind; 5 for the states; else 0
 pub number-of-role : (e : Entry) → role_number (role_of e) ≡ cond (is_variable e) (kind_of e) (cond (is_states e) 5 0)

@@ -15,7 +15,7 @@ use Rattle.text.specs.Numbers.{capped, whole_in}
 use Rattle.dsd.specs.declared.Entry.{Entry as HeldEntry}
 use Rattle.dsd.specs.Held.{name_role, name_text, number_from, held_of, view_of, over_place, role_of}
 use Rattle.dsd.proofs.Numbers.{above}
-use Rattle.dsd.proofs.Names.{kind_role, states_by_role, role_text}
+use Rattle.dsd.proofs.Names.{kind_role, states_by_role, name_known}
 
 -- ---- numbers held at 2^63
 
@@ -56,10 +56,10 @@ module _ (e : Entry) where
   by_role = renamed e (name_text (name_role e.name))
 
   same_kind : kind_of by_role ≡ kind_of e
-  same_kind = kind_role by_role ∙ rw (role_text (name_role e.name)) (sym (kind_role e))
+  same_kind = kind_role by_role ∙ rw (name_known e.name) (sym (kind_role e))
 
   same_states : is_states by_role ≡ is_states e
-  same_states = states_by_role by_role ∙ rw (role_text (name_role e.name)) (sym (states_by_role e))
+  same_states = states_by_role by_role ∙ rw (name_known e.name) (sym (states_by_role e))
 
   same_variable : is_variable by_role ≡ is_variable e
   unfolding is_variable
@@ -71,7 +71,7 @@ module _ (e : Entry) where
 
   same_role : role_of by_role ≡ role_of e
   unfolding role_of
-  same_role = rw (same_variable, same_states, role_text (name_role e.name))
+  same_role = rw (same_variable, same_states, name_known e.name)
 
   module _ (ok : over_place (view_of (held_of e)) ≡ 0) where
     offset-held : capped e.offset.magnitude ≡ e.offset.magnitude

@@ -1,7 +1,7 @@
 -- An entry as the code holds it: its type, its four numbers and the role of its name, against layout's entry. Layout's tests are asked of the view
 -- that a held entry gives.
 -- Assumes nothing.
-use Rattle.std.specs.Prelude.{ℕ, ◌<◌, Bool, true, false, cond, List, [], ◌∷◌, ◌++◌, ◌≡◌, leb, replicate}
+use Rattle.std.specs.Prelude.{ℕ, ◌<◌, Bool, true, false, cond, List, [], ◌∷◌, ◌++◌, ◌≡◌, leb, eqb, replicate}
 use Rattle.layout.specs.Bytes.{bytes, part, byte_at}
 use Rattle.layout.specs.Text.{Number}
 use Rattle.layout.specs.Entries.{Entry, entry_of, called, is_variable, is_states, largest_signed}
@@ -11,7 +11,7 @@ use Rattle.dsd.specs.declared.Entry.{Entry as HeldEntry}
 use Rattle.dsd.specs.declared.Kind.{Kind}
 use Rattle.dsd.specs.declared.Kind.TheVariants.{Nadir, Limb, Occultation, Monitoring}
 use Rattle.dsd.specs.declared.Role.{Role}
-use Rattle.dsd.specs.declared.Role.TheVariants.{Other, Variable, States}
+use Rattle.dsd.specs.declared.Role.TheVariants.{Other, Variable, States, Unknown}
 
 -- ---- the numbers of kinds and roles
 
@@ -27,6 +27,17 @@ unfoldable pub role_number : Role → ℕ
 role_number Other = 0
 role_number (Variable kind) = kind_number kind
 role_number States = 5
+role_number (Unknown n) = 0
+
+-- the role that a number stands for: of 0 to 5 the one whose number it is
+unfoldable pub role_numbered : ℕ → Role
+role_numbered n =
+    cond (eqb n 0) Other
+    (cond (eqb n 1) (Variable Nadir)
+    (cond (eqb n 2) (Variable Limb)
+    (cond (eqb n 3) (Variable Occultation)
+    (cond (eqb n 4) (Variable Monitoring)
+    (cond (eqb n 5) States (Unknown n))))))
 
 -- ---- roles
 
@@ -35,11 +46,13 @@ unfoldable pub of_variable : Role → Bool
 of_variable (Variable kind) = true
 of_variable States = false
 of_variable Other = false
+of_variable (Unknown n) = false
 
 unfoldable pub of_states : Role → Bool
 of_states (Variable kind) = false
 of_states States = true
 of_states Other = false
+of_states (Unknown n) = false
 
 -- what a set of this name may be: of the kinds 1 to 4, or the states
 unfoldable pub name_role : List ℕ → Role
@@ -93,6 +106,7 @@ name_text (Variable Occultation) = bytes "OCCULTATION"
 name_text (Variable Monitoring) = bytes "MONITORING"
 name_text States = bytes "STATES"
 name_text Other = []
+name_text (Unknown n) = []
 
 unfoldable pub number_from : HeldNumber → Number
 number_from n = record { minus = n.minus; magnitude = n.magnitude }

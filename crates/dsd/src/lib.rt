@@ -5,7 +5,7 @@ ghost use Rattle.std.specs.Prelude.{◌≡◌, true, not, cond, ◌+◌, ◌≤�
 ghost use Rattle.layout.specs.Bytes.{part};
 ghost use Rattle.layout.specs.Lines.{size_of_dsd};
 ghost use Rattle.layout.specs.Entries.{entry_of, is_data, non_empty, all_zero, in_range, is_fixed, is_variable, set_fits, numbers_fit, at_least};
-ghost use Rattle.dsd.specs.Held.{kind_number, of_variable, of_states, name_role, number_from, held_of, view_of, spare_bytes, SpareByFirst, Read, over_place, role_of};
+ghost use Rattle.dsd.specs.Held.{kind_number, of_variable, of_states, role_numbered, name_role, number_from, held_of, view_of, spare_bytes, SpareByFirst, Read, over_place, role_of};
 
 // The kinds of variable sets, by their numbers in source 003's level 1b name table.
 #[derive(Clone, Copy)]
@@ -33,12 +33,30 @@ impl Kind {
     }
 }
 
-// What a set is, or by its name may be, to rules 10, 15 and 16.
+// What a set is, or by its name may be, to rules 10, 15 and 16. Who holds it as a number may hold any byte: of one that is no role's, it is kept which.
 #[derive(Clone, Copy)]
 pub enum Role {
     Other,
     Variable(Kind),
     States,
+    Unknown(u8),
+}
+
+#[tactic(auto, unfolding(crate::specs::Held::role_numbered))]
+impl From<u8> for Role {
+    ghost from_gives = { λ number role. role ≡ role_numbered number };
+
+    fn from(number: u8) -> Self {
+        match number {
+            0 => Role::Other,
+            1 => Role::Variable(Kind::Nadir),
+            2 => Role::Variable(Kind::Limb),
+            3 => Role::Variable(Kind::Occultation),
+            4 => Role::Variable(Kind::Monitoring),
+            5 => Role::States,
+            _ => Role::Unknown(number),
+        }
+    }
 }
 
 impl Role {
@@ -151,12 +169,25 @@ impl Entry {
         matches!(self.ds_type, b'M' | b'A' | b'G')
     }
 
-    // DS_OFFSET or DS_SIZE passes 2^63 - 1 (rule 9).
+    // Where in the DSD the number stands that passes 2^63 - 1 (rule 9), DS_OFFSET before DS_SIZE; or 0.
     #[tactic(auto, unfolding(crate::specs::Held::over_place, crate::specs::Held::view_of, crate::specs::Held::number_from))]
+    pub fn over(self) -> usize
+        ensures { result ≡ over_place (view_of self) }
+    {
+        if 9223372036854775807 < self.offset.magnitude {
+            return 133;
+        }
+        if 9223372036854775807 < self.size.magnitude {
+            return 170;
+        }
+        0
+    }
+
+    // One of the two does.
     pub fn is_over(self) -> bool
         ensures { result ≡ not (eqb (over_place (view_of self)) 0) }
     {
-        9223372036854775807 < self.offset.magnitude || 9223372036854775807 < self.size.magnitude
+        self.over() != 0
     }
 
     // All four numbers are zero.

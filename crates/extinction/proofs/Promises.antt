@@ -11,7 +11,7 @@ use lib.IntN.{pos}
 use lib.Ieee.{binary64, of_int}
 use lib.ListN.{length, get_or}
 use borrow.Author.Tests.{le-leb, le-ltb}
-use Rattle.std.specs.Prelude.{Result, Ok, Err}
+use Rattle.std.specs.Prelude.{Result, Ok}
 use Rattle.layout.specs.Bytes.{within}
 use Rattle.layout.specs.Text.{whole}
 use Rattle.layout.specs.Answer.{accepted, refused, none, need, refusal, is, ◌or_else◌}

@@ -6,7 +6,7 @@ use Rattle.std.specs.Float.{binary32}
 use Rattle.std.specs.Float.Ieee.{of_bits}
 use Rattle.layout.specs.Bytes.{bytes, unsigned_at, signed_at}
 use Rattle.layout.specs.Text.{whole}
-use Rattle.layout.specs.Answer.{Answer, none, need, Reply, refusal, is, ◌or_else◌, ◌else◌, ◌before◌}
+use Rattle.layout.specs.Answer.{Answer, none, need, Reply, ◌or_else◌, ◌else◌, ◌before◌}
 use Rattle.layout.specs.Search.{count, find}
 use Rattle.layout.specs.Entries.{Entry, eq_z, directory, at, called}
 use Rattle.layout.specs.Rules.{verdict}

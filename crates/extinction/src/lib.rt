@@ -1,17 +1,13 @@
-// GOMOS residual extinction (document 02, order 1): what one pixel of one record of the set EXT_MDS holds. It rests on an opened product, and on the public
-// call `record_part`.
+// GOMOS residual extinction (document 02, order 1): what one pixel of one record of the set EXT_MDS holds. It rests on the public calls of `product`.
 #![tactic(auto)]
 
-ghost use Rattle.std.specs.Prelude.{◌≡◌, ◌+◌, ◌*◌, ◌-◌, ◌≤◌, ◌<◌, length};
+ghost use Rattle.std.specs.Prelude.{◌≡◌, ◌+◌, ◌-◌, ◌≤◌, ◌<◌, length};
+ghost use Rattle.layout.specs.Answers.{reply};
 ghost use Rattle.layout.specs.Search.{find, only, Below};
-ghost use Rattle.layout.specs.Entries.{entries_from};
-ghost use Rattle.layout.specs.Lines.{size_of_dsd};
-ghost use Rattle.directory.specs.Numbers.{directory_with};
 ghost use Rattle.extinction.specs.Extinction.{single_at, model_of, pixel_of, pixel_in, pixel_reply, pixel_answer_is};
-ghost use Rattle.extinction.specs.Found.{is_extinction_in, extinction_in};
+ghost use Rattle.extinction.specs.Found.{is_extinction_in, extinction_in, entry_reply};
 
 use layout::{Directory, Refusal, Time, refuse};
-use opening::Opening;
 
 // The bytes of a record, and the pixels in it (source 001, table 10.5-13).
 const RECORD_SIZE: i64 = 25_709;
@@ -150,23 +146,25 @@ fn pixel_in(bytes: &[u8], entry: usize, pixel: usize) -> Result<Pixel, Refusal>
 
 // ---- the call
 
-// The entry of the set in an opened product.
+// The entry of the set in a product.
 #[inline(never)] // the directory is off the stack before the record is looked for
-fn entry_opened(p: &[u8], opened: &Opening) -> Option<usize>
-    requires { (opened.now.dsds + size_of_dsd * opened.now.sets.entries ≤ length p.now) × (opened.now.sets.entries ≤ 128) }
-    ensures { Below 128 result (extinction_in (directory_with opened.now.sets (entries_from p.now opened.now.dsds opened.now.sets.entries))) }
+fn entry_of(p: &[u8]) -> Result<usize, Refusal>
+    ensures { reply result ≡ entry_reply p.now }
 {
-    extinction_entry(&directory::directory_from(p, opened.dsds, &opened.sets))
+    match &product::open_directory(p) {
+        Ok(directory) => match extinction_entry(directory) {
+            Some(entry) => Ok(entry),
+            None => refuse(22, 0, Directory::PLACES),
+        },
+        Err(refusal) => Err(*refusal),
+    }
 }
 
 // A pixel of a record of the one set EXT_MDS. A record that is not there has no bytes, and every record of the set has some.
 pub fn pixel_at(p: &[u8], asked: usize, pixel: usize) -> Result<Pixel, Refusal>
     ensures { pixel_answer_is result ≡ pixel_reply p.now asked pixel }
 {
-    let opened = opening::open_product(p)?;
-    let Some(entry) = entry_opened(p, &opened) else {
-        return refuse(22, 0, Directory::PLACES);
-    };
+    let entry = entry_of(p)?;
     let bytes = product::record_part(p, entry, asked);
     if bytes.is_empty() {
         return refuse(18, 0, entry);

@@ -27,9 +27,10 @@ fn bits_at(bytes: &[u8], offset: usize, kind: NarrowKind) -> u32
     }
 }
 
-// The fields of so many records of one length, the first of which begins at a place, stored from place `at` of the column on.
+// What `store_fields` stores, of a kind that the call names: there the loop stands anew, for this kind alone, and does not ask for it at each record.
+#[inline(always)]
 #[tactic(auto, using(crate::proofs::Stored::next), unfolding(crate::specs::Bits::field_bits))]
-pub fn store_fields(
+fn store_of(
     column: &mut [u32],
     at: usize,
     p: &[u8],
@@ -46,4 +47,31 @@ pub fn store_fields(
         let start = place + k * size;
         column[at + k] = bits_at(&p[start..start + size], offset, kind);
     }
+}
+
+// The fields of so many records of one length, the first of which begins at a place, stored from place `at` of the column on.
+#[inline(never)] // seven loops make `gather_run` too large to be put into the loop over the states, where its call costs 57 instructions a state
+pub fn store_fields(
+    column: &mut [u32],
+    at: usize,
+    p: &[u8],
+    place: usize,
+    size: usize,
+    count: usize,
+    offset: usize,
+    kind: NarrowKind,
+)
+    requires { (at + count ≤ length column.old) × (place + count * size ≤ length p.now) × (offset + bytes_of (narrow_shape kind) ≤ size) }
+    ensures { column.new ≡ sets column.old at (map (field_bits p.now place size offset (narrow_number kind)) (upto 0 count)) }
+{
+    macro_rules! store {
+        ($($known:ident)*) => {
+            match kind {
+                $(NarrowKind::$known => {
+                    store_of(column, at, p, place, size, count, offset, NarrowKind::$known)
+                })*
+            }
+        };
+    }
+    store!(SignedChar UnsignedChar SignedShort UnsignedShort SignedLong UnsignedLong Float)
 }

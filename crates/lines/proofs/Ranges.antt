@@ -1,16 +1,16 @@
 -- Bytes that may stand at their places are as laid out, where the tables are as strict as the layout.
 -- Assumes nothing.
 use Prim.Native.Nat.{ℕ, zero, suc, ◌+◌, ◌-◌, ◌≤◌, ◌<◌, suc-le-suc}
-use mathlib.Core.Bool.{Bool, true, ◌&&◌, not}
+use mathlib.Core.Bool.{Bool, true, false, cond, ◌&&◌, not}
 use mathlib.Core.List.{List, [], ◌∷◌}
 use mathlib.Core.Logic.{⊎_elim}
-use mathlib.Core.Path.{◌≡◌, sym, ◌∙◌}
+use mathlib.Core.Path.{◌≡◌, refl, sym, ◌∙◌}
 use Rattle.std.specs.Prelude.{Ok}
 use native.Mathlib.Omega.{arith}
 use native.Mathlib.Nat.{add-zero, zero-add, add-suc, suc-add}
 use lib.Dec.{T, eqb, leb, eqb→eq, leb→le}
 use lib.ListN.{length, get_or}
-use borrow.Author.Tests.{eq-eqb, ne_eqb, le-leb, not-false}
+use borrow.Author.Tests.{eq-eqb, eqb-true, ne_eqb, le-leb, not-false}
 use Rattle.layout.specs.Bytes.{bytes, byte_at, member, within}
 use Rattle.layout.specs.Lines.{size_of_dsd, dsd}
 use Rattle.layout.specs.Search.{some}
@@ -46,8 +46,17 @@ standing lo hi barred x h =
 narrow-fits : (k : Class) (lo hi barred x : ℕ) → T (narrow k lo hi barred) → Standing lo hi barred x → fits k x ≡ true
 unfolding narrow fits
 narrow-fits (exactly y) lo hi barred x h w =
-    let g = (and_T (eqb lo y) (eqb hi y)).0 h in
-    eq-eqb x y (omega (arith, eqb→eq lo y g.0, eqb→eq hi y g.1, w.low, w.high))
+    let g = (and_T (eqb lo y) _).0 h in
+    eq-eqb x y (alone (eqb→eq lo y g.0) (eqb y 32) refl g.1)
+  where
+    alone : lo ≡ y → (t : Bool) → eqb y 32 ≡ t → T (cond t (eqb hi 33 && eqb barred 33) (eqb hi y)) → x ≡ y
+    alone e true q m =
+        let f = (and_T (eqb hi 33) (eqb barred 33)).0 m in
+        ⊎_elim
+        (λ n. absurd (w.other (let same : x ≡ barred = omega (arith, eqb→eq hi 33 f.0, eqb→eq barred 33 f.1, n, w.high) in same)))
+        (λ n. omega (arith, e, eqb-true y 32 q, n, w.low))
+        (lt-or-le 32 x)
+    alone e false q m = omega (arith, e, eqb→eq hi y m, w.low, w.high)
 narrow-fits plain lo hi barred x h w =
     let g = (and_T (leb 32 lo) _).0 h in
     let f = (and_T (leb hi 126) (eqb barred 34)).0 g.1 in

@@ -1,7 +1,7 @@
 -- What may stand at each place of a header, in three tables: a byte from a lowest to a highest, but not the one that is barred; and what makes the tables as strict as a
 -- layout.
 -- Assumes nothing.
-use Rattle.std.specs.Prelude.{ℕ, zero, suc, ◌+◌, Bool, true, false, ◌&&◌, not, List, [], ◌∷◌, leb, eqb}
+use Rattle.std.specs.Prelude.{ℕ, zero, suc, ◌+◌, Bool, true, false, cond, ◌&&◌, not, List, [], ◌∷◌, leb, eqb}
 use Rattle.layout.specs.Bytes.{byte_at, within, member}
 use Rattle.layout.specs.Text.{Class, exactly, plain, sign, digit, among}
 
@@ -15,9 +15,9 @@ misplaced lows highs barred b i = not (may_stand (byte_at lows i) (byte_at highs
 
 -- ---- as strict as a layout
 
--- a byte from lo to hi that is not barred is of the class
+-- a byte from lo to hi that is not barred is of the class; where the class is one byte, it is both lo and hi, but that a blank goes up to !, which is barred
 unfoldable pub narrow : Class → ℕ → ℕ → ℕ → Bool
-narrow (exactly y) lo hi barred = eqb lo y && eqb hi y
+narrow (exactly y) lo hi barred = eqb lo y && cond (eqb y 32) (eqb hi 33 && eqb barred 33) (eqb hi y)
 narrow plain lo hi barred = leb 32 lo && (leb hi 126 && eqb barred 34)
 narrow sign lo hi barred = eqb lo 43 && (eqb hi 45 && eqb barred 44)
 narrow digit lo hi barred = leb 48 lo && leb hi 57

@@ -175,7 +175,7 @@ pub fn main_header_check(p: &[u8]) -> Result<(), usize>
     {
         return Ok(());
     }
-    lines_check(p, &tables::MPH.lows, &tables::MPH_ROWS)
+    lines_check(p, &tables::MPH.highs, &tables::MPH_ROWS)
 }
 
 // A DSD. One whose first byte is a blank is a spare. The type is tested by itself: M, A, G, R are no range.
@@ -189,7 +189,7 @@ fn dsd_check(p: &[u8]) -> Result<(), usize>
     if is_type(p[tables::DSD_TYPE_AT]) && laid_in(p, &tables::DSD, 0, Entry::SIZE) {
         return Ok(());
     }
-    lines_check(p, &tables::DSD.lows, &tables::DSD_ROWS)
+    lines_check(p, &tables::DSD.highs, &tables::DSD_ROWS)
 }
 
 // Rule 8 of the `n` DSDs that begin at `from`.

@@ -24,7 +24,7 @@ use Rattle.directory.specs.declared.Sets.{Sets}
 use Rattle.directory.proofs.Rules.{dsds_of, spares_by_first, rules_split, the_directory, numbers-read, places_are}
 use Rattle.states.specs.Laid.{Fitting, Laid, Every}
 use Rattle.states.proofs.Fits.{fitting, laid}
-use Rattle.opening.specs.Opening.{longest_headers, front_rules, set_rules, Fronted, FrontChecked, SetsRead, HeadersChecked, Opens, Opened, OpenedWhole}
+use Rattle.opening.specs.Opening.{longest_headers, front_rules, set_rules, Fronted, FrontChecked, SetsRead, HeadersChecked, Opens, Opened, OpenedInto, OpenedWhole}
 use Rattle.opening.specs.declared.Opening.{Opening}
 
 -- ---- rules 1 to 8
@@ -203,6 +203,35 @@ module _ (b : List ℕ) where
 
     pub read_judged : (v : Result (Unit {0}) Refusal) → Every sets (λ ds. verdict_is v ≡ state_rules ds (tally_of (states_of b ds))) → verdict_is v ≡ verdict b
     read_judged = by_states sets (sym good) (held (sym good))
+
+    pub read_refused : (f : Refusal) → Every sets (λ ds. refused f.number f.place f.entry ≡ state_rules ds (tally_of (states_of b ds))) → refused f.number f.place f.entry ≡ verdict b
+    unfolding verdict_is
+    read_refused f every = read_judged (Err f) every
+
+    pub read_accepted : Every sets (λ ds. accepted ≡ state_rules ds (tally_of (states_of b ds))) → accepted ≡ verdict b
+    unfolding verdict_is
+    read_accepted every = read_judged (Ok tt) every
+
+  -- with the numbers that the caller lent
+  module _ (sets : Sets) where
+    pub stays_unlent : (f : Refusal) (r : Result ℕ Refusal) → r ≡ Err f → refused f.number f.place f.entry ≡ verdict b → OpenedInto b r sets
+    unfolding verdict_is
+    stays_unlent f r e h = rw e (record { judged = h; opens = λ x q. cc })
+
+    pub opened_into : (headers : HeaderCheck) → HeadersChecked b (length b) (Ok headers) sets → accepted ≡ verdict b
+        → (dsds : ℕ) → dsds ≡ headers.headers_end - 280 * headers.entries → OpenedInto b (Ok dsds) sets
+    unfolding verdict_is
+    opened_into headers checked accepts dsds d = record {
+      judged = accepts;
+      opens = λ x q. let e : dsds ≡ x = cc in subst (λ (y : ℕ). Opens b (record { dsds = y; sets = sets })) e ((opened b (length b) headers sets checked dsds d).opens _ refl);
+    }
+
+    pub whole_into : (dsds : ℕ) → OpenedInto b (Ok dsds) sets → OpenedWhole b (Ok (record { dsds = dsds; sets = sets }))
+    unfolding verdict_is
+    whole_into dsds into = record {
+      judged = into.judged;
+      opens = λ x q. let e : ◌≡◌ {A = Opening} (record { dsds = dsds; sets = sets }) x = cc in subst (Opens b) e (into.opens dsds refl);
+    }
 
 -- what the judgement of a product needs of all this
 pub ruleset judging = (handed-verdict, headers-refused, read_laid)

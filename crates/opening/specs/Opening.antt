@@ -59,7 +59,12 @@ pub record Opened (b : List ℕ) (n : ℕ) (r : Result Opening Refusal) : Type 0
   pub judged : verdict_is r ≡ header_rules b n
   pub opens : (o : Opening) → r ≡ Ok o → Opens b o
 
--- the answer of all sixteen rules; where it accepts, those
+-- the answer of all sixteen rules; where it accepts, the place where the DSDs begin, with the numbers
+pub record OpenedInto (b : List ℕ) (r : Result ℕ Refusal) (sets : Sets) : Type 0 where
+  pub judged : verdict_is r ≡ verdict b
+  pub opens : (dsds : ℕ) → r ≡ Ok dsds → Opens b (record { dsds = dsds; sets = sets })
+
+-- the same, both in one answer
 pub record OpenedWhole (b : List ℕ) (r : Result Opening Refusal) : Type 0 where
   pub judged : verdict_is r ≡ verdict b
   pub opens : (o : Opening) → r ≡ Ok o → Opens b o

@@ -7,7 +7,7 @@ ghost use Rattle.layout.specs.Answers.{verdict_is};
 ghost use Rattle.layout.specs.Entries.{directory};
 ghost use Rattle.layout.specs.Rules.{verdict};
 ghost use Rattle.directory.specs.Numbers.{no_sets};
-ghost use Rattle.opening.specs.Opening.{longest_headers, set_rules, Fronted, FrontChecked, SetsRead, HeadersChecked, Opened, OpenedWhole};
+ghost use Rattle.opening.specs.Opening.{longest_headers, set_rules, Fronted, FrontChecked, SetsRead, HeadersChecked, Opened, OpenedInto, OpenedWhole};
 
 use directory::{Reading, Sets};
 use header::HeaderCheck;
@@ -65,7 +65,7 @@ pub fn check_headers(p: &[u8], length: u64, sets: &mut Sets) -> Result<HeaderChe
 }
 
 // The same, with the numbers: the answer is the one copy of them.
-#[inline(never)] // its copies are off the stack before the states are read
+#[inline(never)] // its copies are off the stack before a caller reads the states
 pub fn open_headers(p: &[u8], length: u64) -> Result<Opening, Refusal>
     requires { min length longest_headers ≤ lib.ListN.length p.now }
     ensures { Opened p.now length result }
@@ -79,7 +79,7 @@ pub fn open_headers(p: &[u8], length: u64) -> Result<Opening, Refusal>
 }
 
 // All sixteen rules, of a product lent whole and opened.
-#[inline(never)] // and these before a caller goes on
+#[inline(never)] // and what this takes is, before a caller goes on
 pub fn judge_opened(p: &[u8], opened: &Result<Opening, Refusal>) -> Result<(), Refusal>
     requires { Opened p.now (length p.now) opened.now }
     ensures { verdict_is result ≡ verdict p.now }
@@ -90,13 +90,23 @@ pub fn judge_opened(p: &[u8], opened: &Result<Opening, Refusal>) -> Result<(), R
     }
 }
 
+// All sixteen rules of a product lent whole, with the numbers lent by the caller: where the DSDs begin. Who goes on with the numbers copies none of them so.
+pub fn open_sets(p: &[u8], sets: &mut Sets) -> Result<usize, Refusal>
+    requires { sets.old ≡ no_sets }
+    ensures { OpenedInto p.now result sets.new }
+{
+    let headers = check_headers(p, p.len() as u64, sets)?;
+    states::judge_states(p, sets)?;
+    Ok(headers.dsds())
+}
+
 // An accepted product opened.
 pub fn open_product(p: &[u8]) -> Result<Opening, Refusal>
     ensures { OpenedWhole p.now result }
 {
-    let opened = open_headers(p, p.len() as u64);
-    judge_opened(p, &opened)?;
-    opened
+    let mut sets = Sets::none();
+    let dsds = open_sets(p, &mut sets)?;
+    Ok(Opening { dsds, sets })
 }
 
 // The verdict alone: the numbers are not copied.

@@ -11,6 +11,7 @@ ghost use Rattle.layout.specs.Rules.{verdict};
 ghost use Rattle.layout.specs.Records.{sph_place, record_place, part_of};
 ghost use Rattle.layout.specs.Fields.{field_reply, point_reply};
 
+use directory::Sets;
 use layout::{Directory, Field, Point, Refusal, Span};
 use values::MainHeader;
 
@@ -25,8 +26,11 @@ pub fn judge(p: &[u8]) -> Result<(), Refusal>
 pub fn open_directory(p: &[u8]) -> Result<Directory, Refusal>
     ensures { reply result ≡ (verdict p.now else directory_of (directory p.now)) }
 {
-    let opened = opening::open_product(p)?;
-    Ok(directory::directory_from(p, opened.dsds, &opened.sets))
+    let mut sets = Sets::none();
+    let dsds = opening::open_sets(p, &mut sets)?;
+    let mut directory = Directory::none();
+    directory::fill_directory(&mut directory, p, dsds, &sets);
+    Ok(directory)
 }
 
 // The 34 values of the main header.
@@ -41,8 +45,9 @@ pub fn header_values(p: &[u8]) -> Result<MainHeader, Refusal>
 pub fn sph_place(p: &[u8]) -> Result<Span, Refusal>
     ensures { place_is result ≡ sph_place p.now }
 {
-    let opened = opening::open_product(p)?;
-    let lines = opened.dsds - MainHeader::SIZE;
+    let mut sets = Sets::none();
+    let dsds = opening::open_sets(p, &mut sets)?;
+    let lines = dsds - MainHeader::SIZE;
     Ok(Span {
         place: MainHeader::SIZE as u64,
         length: lines as u64,
@@ -73,8 +78,9 @@ pub fn sph_part(p: &[u8]) -> &[u8]
 pub fn record_place(p: &[u8], entry: usize, asked: usize) -> Result<Span, Refusal>
     ensures { place_is result ≡ record_place p.now entry asked }
 {
-    let opened = opening::open_product(p)?;
-    records::place_of_record(p, &opened.sets, entry, asked)
+    let mut sets = Sets::none();
+    opening::open_sets(p, &mut sets)?;
+    records::place_of_record(p, &sets, entry, asked)
 }
 
 // The record, or the empty part.

@@ -40,7 +40,8 @@ fn place_of_unequal(
     ensures { place_is result ≡ place_in p.now entry asked }
 {
     let span = states::states_span(sets);
-    match states::find_record(p, span.place as usize, span.count as usize, kind, asked) {
+    let number = kind.number();
+    match states::find_record(p, span.place as usize, span.count as usize, number, asked) {
         Some(found) => Ok(Span {
             place: sets.offsets[entry] + found.before,
             length: found.length,

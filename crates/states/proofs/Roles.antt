@@ -18,7 +18,7 @@ use Rattle.layout.specs.States.{of_kind}
 use Rattle.dsd.specs.declared.Kind.{Kind}
 use Rattle.dsd.specs.declared.Kind.TheVariants.{Nadir, Limb, Occultation, Monitoring}
 use Rattle.dsd.specs.declared.Role.{Role}
-use Rattle.dsd.specs.declared.Role.TheVariants.{Other, Variable, States}
+use Rattle.dsd.specs.declared.Role.TheVariants.{Other, Variable, States, Unknown}
 use Rattle.dsd.specs.Held.{kind_number, role_number, of_variable}
 use Rattle.directory.specs.declared.Sets.{Sets}
 use Rattle.states.specs.declared.Tally.{Tally}
@@ -36,9 +36,9 @@ some_of_list xs t i zero h = refl
 some_of_list [] t i (suc n) h = rw (rw add-zero at (h 0), ← some_of_list [] t (suc i) n (λ k. rw (suc-add, ← add-suc) (h (suc k))), take-nil n)
 some_of_list (x ∷ xs) t i (suc n) h = rw (rw add-zero at (h 0), some_of_list xs t (suc i) n (λ k. rw (suc-add, ← add-suc) (h (suc k))))
 
-pub variable_found : (sets : Sets) → list_any of_variable (take sets.entries sets.roles) ≡ has_variable sets.roles sets.entries
+pub variable_found : (roles : List Role) (n : ℕ) → list_any of_variable (take n roles) ≡ has_variable roles n
 unfolding has_variable varies_at
-variable_found sets = some_of_list sets.roles _ 0 sets.entries (λ k. rw zero-add)
+variable_found roles n = some_of_list roles _ 0 n (λ k. rw zero-add)
 
 -- ---- a set that is not filled
 
@@ -52,12 +52,14 @@ unfilled_number (Variable Occultation) count size tallied totals = refl
 unfilled_number (Variable Monitoring) count size tallied totals = refl
 unfilled_number States count size tallied totals = refl
 unfilled_number Other count size tallied totals = refl
+unfilled_number (Unknown n) count size tallied totals = refl
 
 pub not_unfilled : (role : Role) (count size : ℕ) (tallied totals : List ℕ) → ((kind : Kind) → role ≡ Variable kind → ⊥) → false ≡ unfilled role count size tallied totals
 unfolding unfilled
 not_unfilled (Variable kind) count size tallied totals n = absurd (n kind refl)
 not_unfilled States count size tallied totals n = refl
 not_unfilled Other count size tallied totals n = refl
+not_unfilled (Unknown m) count size tallied totals n = refl
 
 module _ (kind : Kind) (place count size : ℕ) (tallied totals : List ℕ) (at : place + 1 ≡ kind_number kind) where
   here : place ≡ kind_number kind - 1

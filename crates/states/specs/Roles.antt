@@ -5,7 +5,7 @@ use Rattle.layout.specs.Answer.{Answer, need, where', ◌or_else◌}
 use Rattle.layout.specs.Search.{some, find, only}
 use Rattle.layout.specs.States.{of_kind}
 use Rattle.dsd.specs.declared.Role.{Role}
-use Rattle.dsd.specs.declared.Role.TheVariants.{Other, Variable, States}
+use Rattle.dsd.specs.declared.Role.TheVariants.{Other, Variable, States, Unknown}
 use Rattle.dsd.specs.Held.{kind_number, of_variable, of_states}
 use Rattle.directory.specs.declared.Sets.{Sets}
 use Rattle.states.specs.declared.Tally.{Tally}
@@ -31,6 +31,7 @@ unfilled (Variable kind) count size tallied totals =
     not (eqb (of_kind tallied (kind_number kind)) count && eqb (of_kind totals (kind_number kind)) size)
 unfilled States count size tallied totals = false
 unfilled Other count size tallied totals = false
+unfilled (Unknown n) count size tallied totals = false
 
 unfoldable pub unfilled_at : List Role → List ℕ → List ℕ → List ℕ → List ℕ → ℕ → Bool
 unfilled_at roles counts sizes tallied totals i = unfilled (get_or roles i Other) (get_or counts i 0) (get_or sizes i 0) tallied totals

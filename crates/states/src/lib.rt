@@ -8,13 +8,12 @@ ghost use Rattle.layout.specs.Records.{variable_lengths};
 ghost use Rattle.layout.specs.Rules.{state_rules};
 ghost use Rattle.layout.specs.Search.{find, Below};
 ghost use Rattle.layout.specs.States.{size_of_state, state_of, state_fits, state_count, states_of, tally_of};
-ghost use Rattle.dsd.specs.Held.{kind_number};
 ghost use Rattle.states.specs.States.{state_is, cap, capped, Capped, added, states_from, tally_is, tally_from, no_tally, with_state, found};
 ghost use Rattle.states.specs.Roles.{describes_at, has_variable, only_states, unfilled, unfilled_at, rule16_by, described_by};
 ghost use Rattle.states.specs.Laid.{Laid, Every, span_of};
 
 use directory::Sets;
-use dsd::{Kind, Role};
+use dsd::Role;
 use layout::{Refusal, refuse};
 
 // Source 003, table 15.4.1.7.20-1. The kind stays the record's own byte: any may stand there, and rule 15 judges it.
@@ -64,9 +63,9 @@ impl State {
         self.record_length != 0
     }
 
-    // How many records the state adds to a set of the kind of this number. Flag 0 means that records ARE attached. Its own number is compared too: without
-    // that, a judgement of 1,000 states takes 2 % longer.
-    fn adds(self, number: u8) -> u64
+    // How many records the state adds to a set of the kind of this number, which may be any. Flag 0 means that records ARE attached. Its own number is compared
+    // too: without that, a judgement of 1,000 states takes 2 % longer.
+    pub fn adds_to(self, number: u8) -> u64
         ensures { (result ≡ state_count number (state_is self)) × (result < 65536) }
     {
         if self.flag != 0 {
@@ -76,13 +75,6 @@ impl State {
             return 0;
         }
         self.count as u64
-    }
-
-    // How many records the state adds to a set of this kind.
-    pub fn adds_to(self, kind: Kind) -> u64
-        ensures { (result ≡ state_count (kind_number kind) (state_is self)) × (result < 65536) }
-    {
-        self.adds(kind.number())
     }
 }
 
@@ -151,12 +143,13 @@ impl Tally {
         }
     }
 
-    // One more state, number i, whatever the tally, if its sums are capped.
-    pub fn add_state(&mut self, state: State, i: usize)
+    // One more state, number i, whatever the tally, if its sums are capped. Lent: a state that is handed on whole is packed into one word and taken apart again,
+    // and a judgement of 1,000 states takes 1.25 times as long.
+    pub fn add_state(&mut self, state: &State, i: usize)
         requires { Capped self.old.counts × Capped self.old.totals × (i < 18446744073709551615) }
-        ensures { self.new ≡ with_state self.old (state_is state) i }
+        ensures { self.new ≡ with_state self.old (state_is state.now) i }
     {
-        let more = state.adds(state.kind);
+        let more = state.adds_to(state.kind);
         self.bad = bad_after(self.bad, i, state.fits());
         add_at(&mut self.counts, state.kind, more);
         add_at(
@@ -174,7 +167,7 @@ pub fn tally_states(p: &[u8], start: usize, count: usize) -> Tally
 {
     let mut tally = Tally::none();
     for i in 0..count {
-        tally.add_state(State::at(p, start + State::SIZE * i), i);
+        tally.add_state(&State::at(p, start + State::SIZE * i), i);
     }
     tally
 }
@@ -186,10 +179,10 @@ pub struct Found {
     pub length: u64,
 }
 
-// The record that is asked for, of the set of a kind.
-pub fn find_record(p: &[u8], start: usize, count: usize, kind: Kind, asked: usize) -> Option<Found>
+// The record that is asked for, of the set of the kind of this number, which may be any.
+pub fn find_record(p: &[u8], start: usize, count: usize, kind: u8, asked: usize) -> Option<Found>
     requires { start + size_of_state * count ≤ length p.now }
-    ensures { result ≡ found (variable_lengths (states_from p.now start count) (kind_number kind)) asked }
+    ensures { result ≡ found (variable_lengths (states_from p.now start count) kind) asked }
 {
     let mut before = 0;
     let mut left = asked as u64;
@@ -212,13 +205,11 @@ pub fn find_record(p: &[u8], start: usize, count: usize, kind: Kind, asked: usiz
 // ---- rules 15 and 16, by the numbers of a directory's entries
 
 // Some entry is a variable set.
-pub fn has_variable(sets: &Sets) -> bool
-    requires { sets.now.entries ≤ 128 }
-    ensures { result ≡ has_variable sets.now.roles sets.now.entries }
+pub fn has_variable(roles: &[Role; 128], entries: usize) -> bool
+    requires { entries ≤ 128 }
+    ensures { result ≡ has_variable roles.now entries }
 {
-    sets.roles[..sets.entries]
-        .iter()
-        .any(|role| role.is_variable())
+    roles[..entries].iter().any(|role| role.is_variable())
 }
 
 // The first entry from `from` on that describes the states.
@@ -336,7 +327,7 @@ pub fn judge_tally(sets: &Sets, tally: &Tally) -> Result<(), Refusal>
     requires { (n : ℕ) × Laid sets.now n }
     ensures { Every sets.now (λ ds. verdict_is result ≡ state_rules ds (tally_from tally.now)) }
 {
-    if !has_variable(sets) {
+    if !has_variable(&sets.roles, sets.entries) {
         return Ok(());
     }
     match only_states(sets) {
@@ -350,7 +341,7 @@ pub fn judge_states(p: &[u8], sets: &Sets) -> Result<(), Refusal>
     requires { Laid sets.now (length p.now) }
     ensures { Every sets.now (λ ds. verdict_is result ≡ state_rules ds (tally_of (states_of p.now ds))) }
 {
-    if !has_variable(sets) {
+    if !has_variable(&sets.roles, sets.entries) {
         return Ok(());
     }
     let span = states_span(sets);

@@ -3,7 +3,7 @@
 use Prim.Native.Nat.{ℕ}
 use mathlib.Core.List.{List, [], ◌∷◌}
 use mathlib.Core.Path.{◌≡◌, refl, sym, subst}
-use lib.ListN.{length, replicate}
+use lib.ListN.{length}
 use Rattle.std.specs.Prelude.{Option, Some, None, Result, Ok, Err}
 use Rattle.layout.specs.Answer.{Reply, refusal, is}
 use Rattle.layout.specs.declared.Refusal.{Refusal}
@@ -32,18 +32,6 @@ unfolding time_words said_words
 time_seven (refusal n p e) = refl
 time_seven (is (given t)) = refl
 time_seven (is not_given) = refl
-
--- the words and bytes of each case of a text
-module _ {words words' text text' : List ℕ} {r : ℕ} (a : Result (List ℕ) Refusal) where
-  pub accepted_text : (bytes : List ℕ) → a ≡ Ok bytes → TwoRooms (0 ∷ 0 ∷ 0 ∷ []) words words' bytes text text' r
-      → TwoRooms (verdict_words (verdict_is a)) words words' (text_bytes a) text text' r
-  unfolding verdict_words verdict_is text_bytes
-  accepted_text bytes h put = rw h put
-
-  pub refused_text : (f : Refusal) → a ≡ Err f → TwoRooms (f.number ∷ f.place ∷ f.entry ∷ []) words words' (replicate 27 0) text text' r
-      → TwoRooms (verdict_words (verdict_is a)) words words' (text_bytes a) text text' r
-  unfolding verdict_words verdict_is text_bytes
-  refused_text f h put = rw h put
 
 -- a text put whole is what the time's text leaves
 pub text-rooms : {s : Time} (t : Time) (a : Result (List ℕ) Refusal) {words words' text text' : List ℕ} {r : ℕ} → s ≡ t → TextAnswer s a

@@ -6,11 +6,11 @@ ghost use Rattle.writing.specs.Put.{Put};
 ghost use Rattle.words.specs.Words.{verdict_words};
 ghost use Rattle.words.specs.Lent.{TwoRooms};
 ghost use Rattle.layout.specs.Answers.{verdict_is};
-ghost use Rattle.times.specs.Times.{time_answer_is, text_bytes};
+ghost use Rattle.times.specs.Times.{time_answer_is};
 ghost use Rattle.time_words.specs.TimeWords.{time_words};
 
 use layout::{Refusal, Time};
-use words::{ROOM_TOO_SHORT, WRITTEN, put_refusal, put_words, word_of};
+use words::{ROOM_TOO_SHORT, WRITTEN, put_refusal, put_verdict, put_words, word_of};
 use writing::put_text;
 
 pub fn put_time(room: &mut [u64], answer: Result<Option<Time>, Refusal>) -> usize
@@ -39,27 +39,19 @@ pub fn put_time(room: &mut [u64], answer: Result<Option<Time>, Refusal>) -> usiz
     }
 }
 
-// Words and bytes, where both have room.
-fn put_both(verdict: &[u64; 3], bytes: &[u8; 27], words: &mut [u64], text: &mut [u8]) -> u32
-    ensures { TwoRooms verdict.now words.old words.new bytes.now text.old text.new result }
+// The words of any verdict, and any text's bytes, where both have room.
+pub fn put_whole_text(
+    verdict: Result<(), Refusal>,
+    bytes: &[u8; 27],
+    words: &mut [u64],
+    text: &mut [u8],
+) -> u32
+    ensures { TwoRooms (verdict_words (verdict_is verdict)) words.old words.new bytes.now text.old text.new result }
 {
     if words.len() < 3 || text.len() < 27 {
         return ROOM_TOO_SHORT;
     }
-    put_words(words, 0, verdict);
+    put_verdict(words, verdict);
     put_text(text, 0, bytes);
     WRITTEN
-}
-
-// The verdict's words and the text's bytes, where both have room.
-pub fn put_whole_text(answer: Result<[u8; 27], Refusal>, words: &mut [u64], text: &mut [u8]) -> u32
-    ensures { TwoRooms (verdict_words (verdict_is answer)) words.old words.new (text_bytes answer) text.old text.new result }
-{
-    match answer {
-        Ok(bytes) => put_both(&[0; 3], &bytes, words, text),
-        Err(refusal) => {
-            let verdict = [refusal.number as u64, refusal.place, refusal.entry as u64];
-            put_both(&verdict, &[0; 27], words, text)
-        }
-    }
 }

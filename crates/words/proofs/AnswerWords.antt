@@ -7,7 +7,7 @@ use lib.IntN.{ℤ, pos, negsuc}
 use mir.Syntax.{w64}
 use mir.Val.{of_z}
 use mathlib.Core.List.{List, [], ◌∷◌, ◌++◌}
-use Rattle.std.specs.Prelude.{Result, Ok, Err, MatchResult, IsOkAnd}
+use Rattle.std.specs.Prelude.{Result, Ok, Err, MatchResult}
 use Rattle.std.specs.Result.{result_unwrap_or}
 use Rattle.layout.specs.Answers.{verdict_is, reply_is, place_is, field_is, field_answer_is}
 use Rattle.layout.specs.declared.Refusal.{Refusal}
@@ -34,11 +34,3 @@ pub field-words : (a : Result Field Refusal) (w : List ℕ) → MatchResult a (�
 unfolding verdict_words verdict_is field_words reply_is
 field-words (Ok f) w h = rw h
 field-words (Err r) w h = rw h
-
--- ---- a verdict is the answer's refusal
-
-pub same-verdict : {A B : Type 0} (P : A → B → Type 0) (a : Result A Refusal) (v : Result B Refusal) → MatchResult a (λ x. IsOkAnd v (P x)) (λ r. v ≡ Err r) → verdict_is v ≡ verdict_is a
-unfolding verdict_is
-same-verdict P (Ok x) (Ok y) h = refl
-same-verdict P (Ok x) (Err r) h = absurd h
-same-verdict P (Err r) v h = rw h

@@ -1,25 +1,13 @@
 -- What an answer of two kinds leaves in the two rooms lent for it, and what is returned.
 -- Assumes nothing.
-use Rattle.std.specs.Prelude.{ℕ, List, [], ◌∷◌, Float, length, Result}
-use Rattle.std.specs.Result.{result_unwrap_or}
+use Rattle.std.specs.Prelude.{ℕ, List, [], ◌∷◌, Float, length}
 use Rattle.layout.specs.Answer.{Answer, Reply}
 use Rattle.layout.specs.Fields.{Position}
 use Rattle.layout.specs.declared.Directory.{Directory}
-use Rattle.layout.specs.declared.Refusal.{Refusal}
-use Rattle.layout.specs.Answers.{no_directory}
-use Rattle.values.specs.Header.{no_header}
 use Rattle.values.specs.declared.MainHeader.{MainHeader}
 use Rattle.words.specs.Words.{point_words, point_doubles}
 use Rattle.words.specs.Headers.{header_words, header_texts, directory_words, directory_texts}
 use Rattle.words.specs.Lent.{TwoRooms}
-
--- the directory; beside a refusal zeros
-unfoldable pub directory_shown : Result Directory Refusal → Directory
-directory_shown a = result_unwrap_or a no_directory
-
--- the main header; beside a refusal zeros
-unfoldable pub header_shown : Result MainHeader Refusal → MainHeader
-header_shown a = result_unwrap_or a no_header
 
 -- words and texts of the directory
 abbrev pub DirectoryRooms : Answer → Directory → (words words' texts texts' : List ℕ) (r : ℕ) → Type 0

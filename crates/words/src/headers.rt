@@ -176,10 +176,10 @@ pub fn put_directory_numbers<'a>(
 pub(crate) fn put_directory(
     room: &mut [u64],
     verdict: Result<(), Refusal>,
-    directory: Directory,
+    directory: &Directory,
 ) -> usize
     requires { 772 ≤ length room.old }
-    ensures { Put 772 (directory_words (verdict_is verdict) directory) room.old room.new 0 result }
+    ensures { Put 772 (directory_words (verdict_is verdict) directory.now) room.old room.new 0 result }
 {
     put_directory_numbers(
         room,
@@ -194,9 +194,9 @@ pub(crate) fn put_directory(
     )
 }
 
-pub(crate) fn put_directory_texts(room: &mut [u8], directory: Directory) -> usize
+pub(crate) fn put_directory_texts(room: &mut [u8], directory: &Directory) -> usize
     requires { 11520 ≤ length room.old }
-    ensures { Put 11520 (directory_texts directory) room.old room.new 0 result }
+    ensures { Put 11520 (directory_texts directory.now) room.old room.new 0 result }
 {
     put_two_texts(room, 0, &directory.names, &directory.filenames)
 }

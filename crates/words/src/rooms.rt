@@ -1,6 +1,6 @@
 // Answers put whole into two lent rooms, where both have room for them. A room too short for the answer returns 1, and nothing is written.
 ghost use Rattle.layout.specs.Answers.{verdict_is};
-ghost use Rattle.words.specs.Rooms.{directory_shown, header_shown, DirectoryRooms, HeaderRooms, PartRooms};
+ghost use Rattle.words.specs.Rooms.{DirectoryRooms, HeaderRooms, PartRooms};
 
 use crate::headers::{put_directory, put_directory_texts, put_header, put_header_texts};
 use crate::put_words;
@@ -12,42 +12,44 @@ pub const WRITTEN: u32 = 0;
 
 pub const ROOM_TOO_SHORT: u32 = 1;
 
-// The directory's words and texts, where both have room.
+// The words of any verdict and any directory, and its texts, where both have room. The directory is borrowed: it has 16.8 kB.
 pub fn put_whole_directory(
-    answer: Result<Directory, Refusal>,
+    verdict: Result<(), Refusal>,
+    directory: &Directory,
     words: &mut [u64],
     texts: &mut [u8],
 ) -> u32
-    ensures { DirectoryRooms (verdict_is answer) (directory_shown answer) words.old words.new texts.old texts.new result }
+    ensures { DirectoryRooms (verdict_is verdict) directory.now words.old words.new texts.old texts.new result }
 {
-    let directory = answer.unwrap_or(Directory::none());
+    // Borrowed here for the proof: it tells how long the directory's arrays are, also where a room is too short.
+    let _names = &directory.names;
     if words.len() < 772 {
         return ROOM_TOO_SHORT;
     }
     if texts.len() < 11520 {
         return ROOM_TOO_SHORT;
     }
-    put_directory(words, answer.map(|_| ()), directory);
+    put_directory(words, verdict, directory);
     put_directory_texts(texts, directory);
     WRITTEN
 }
 
-// The main header's words and texts, where both have room.
+// The words of any verdict and any main header, and its texts, where both have room.
 pub fn put_whole_header(
-    answer: Result<MainHeader, Refusal>,
+    verdict: Result<(), Refusal>,
+    header: MainHeader,
     words: &mut [u64],
     texts: &mut [u8],
 ) -> u32
-    ensures { HeaderRooms (verdict_is answer) (header_shown answer) words.old words.new texts.old texts.new result }
+    ensures { HeaderRooms (verdict_is verdict) header words.old words.new texts.old texts.new result }
 {
-    let header = answer.unwrap_or(MainHeader::none());
     if words.len() < 25 {
         return ROOM_TOO_SHORT;
     }
     if texts.len() < 289 {
         return ROOM_TOO_SHORT;
     }
-    put_header(words, answer.map(|_| ()), header);
+    put_header(words, verdict, header);
     put_header_texts(texts, header);
     WRITTEN
 }

@@ -14,14 +14,16 @@ pub fn put_byte(out: &mut [u8], at: usize, byte: u8) -> usize
     at + 1
 }
 
-// Items of any kind, as they are.
+// Items of any kind, as they are: one by one, since the library's `copy_from_slice` asks the C library for memmove, and users are promised that theirs needs
+// memcpy and memset alone.
 pub fn put_items<T: Copy>(out: &mut [T], at: usize, items: &[T]) -> usize
     requires { at + length items.now ≤ length out.old }
     ensures { Put (length items.now) items.now out.old out.new at result }
 {
-    let end = at + items.len();
-    out[at..end].copy_from_slice(items);
-    end
+    for (i, item) in items.iter().enumerate() {
+        out[at + i] = *item;
+    }
+    at + items.len()
 }
 
 pub fn put_text(out: &mut [u8], at: usize, text: &[u8]) -> usize

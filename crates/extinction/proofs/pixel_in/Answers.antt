@@ -7,7 +7,7 @@ use mir.Facts.{to_z-of_z}
 use borrow.Author.Rules.{rules}
 use Rattle.layout.specs.Answer.{is}
 use Rattle.extinction.specs.declared.Pixel.{Pixel}
-use Rattle.extinction.specs.Extinction.{pixel_of, pixel_answer_is}
+use Rattle.extinction.specs.Extinction.{pixel_of}
 use Rattle.extinction.proofs.Pixels.{past_pixels, empty-record, values}
 use Rattle.layout.specs.Answers.{reply_is, reply}
 use Rattle.extinction.proofs.pixel_in.Goals as goal

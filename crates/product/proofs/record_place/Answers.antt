@@ -7,10 +7,10 @@ use Rattle.layout.proofs.Replies.{handed-reply}
 use Rattle.product.proofs.Calls.{now_open}
 use Rattle.product.proofs.record_place.Goals as goal
 
-pub returns-in_err-opened : goal.returns-in_err-opened
+pub returns-in_err-open_sets : goal.returns-in_err-open_sets
 unfolding verdict_is record_place record_refusal
-returns-in_err-opened c = handed-reply _ _ _ c.from_residual.ensures ∙ rw (← c.in_err-opened.ensures.judged)
+returns-in_err-open_sets c = handed-reply _ _ _ c.from_residual.ensures ∙ rw (← c.in_err-open_sets.ensures.judged)
 
 pub place_of_record-requires : goal.place_of_record-requires
 unfolding verdict_is
-place_of_record-requires c = let o = c.in_ok-opened.ensures in now_open _ _ (o.opens _ refl) (sym o.judged)
+place_of_record-requires c = let o = c.in_ok-open_sets.ensures in now_open _ _ (o.opens _ refl) (sym o.judged)

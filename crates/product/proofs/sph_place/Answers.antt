@@ -10,16 +10,16 @@ use Rattle.layout.proofs.Replies.{handed-reply}
 use Rattle.product.proofs.Calls.{now_dsds, lines_are}
 use Rattle.product.proofs.sph_place.Goals as goal
 
-pub returns-in_err-opened : goal.returns-in_err-opened
+pub returns-in_err-dsds : goal.returns-in_err-dsds
 unfolding verdict_is sph_place
-returns-in_err-opened c = handed-reply _ _ _ c.from_residual.ensures ∙ rw (← c.in_err-opened.ensures.judged)
+returns-in_err-dsds c = handed-reply _ _ _ c.from_residual.ensures ∙ rw (← c.in_err-dsds.ensures.judged)
 
 pub overflow_sub-lines : goal.overflow_sub-lines
 unfolding verdict_is
-overflow_sub-lines c = let o = c.in_ok-opened.ensures in omega (arith, (now_dsds _ _ (o.opens _ refl) (sym o.judged)).0)
+overflow_sub-lines c = let o = c.in_ok-dsds.ensures in omega (arith, (now_dsds _ _ (o.opens _ refl) (sym o.judged)).0)
 
 pub returns : goal.returns
 unfolding reply_is verdict_is sph_place
 returns c =
-    let o = c.in_ok-opened.ensures in
+    let o = c.in_ok-dsds.ensures in
     ap (λ (n : ℕ). is (record { place = 1247; length = n })) (lines_are _ _ (o.opens _ refl) (sym o.judged)) ∙ rw (← o.judged)

@@ -11,6 +11,5 @@ use Rattle.states.proofs.has_variable.Goals as goal
 
 pub returns : goal.returns
 returns c =
-    let sets = c.args.sets.now in
-    let found = YieldsList-from_slice (take sets.entries sets.roles) cc in
-    any_from_yields_List of_variable _ _ c.any.result c.any.ensures.ran found (λ x b q k. search (rules, tests)) ∙ variable_found sets
+    let found = YieldsList-from_slice (take c.args.entries c.args.roles.now) cc in
+    any_from_yields_List of_variable _ _ c.any.result c.any.ensures.ran found (λ x b q k. search (rules, tests)) ∙ variable_found c.args.roles.now c.args.entries

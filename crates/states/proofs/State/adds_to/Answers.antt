@@ -1,9 +1,9 @@
--- `states::State::adds` meets its contract.
+-- `states::State::adds_to` meets its contract.
 -- Assumes nothing.
 use native.Mathlib.Omega.{arith}
 use Rattle.states.specs.States.{state_is}
 use Rattle.states.proofs.Laws.{count_detached, count-other, count-attached}
-use Rattle.states.proofs.State.adds.Goals as goal
+use Rattle.states.proofs.State.adds_to.Goals as goal
 
 pub returns-then-self-ne0 : goal.returns-then-self-ne0
 unfolding state_is
