@@ -108,8 +108,8 @@ pub states_by_role : (e : Entry) → is_states e ≡ (eqb e.type 65 && eqb (role
 unfolding is_states
 states_by_role e = rw (states_role e.name)
 
--- a role that a name has; a number that is no role's says no more than Other
-pub known : Role → Role
+-- a role that a name has; a number that is no role's says no more than Other. Other crates may unfold it, since `role_text` is told by it
+unfoldable pub known : Role → Role
 known Other = Other
 known (Variable kind) = Variable kind
 known States = States
